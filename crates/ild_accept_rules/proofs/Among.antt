@@ -19,7 +19,7 @@ use Rattle.ild_schema.specs.declared.def.UnionForm.{UnionForm}
 use Rattle.ild_schema.specs.declared.def.UnionForm.TheVariants as U
 use Rattle.ild_schema.specs.declared.row.Row.{Row}
 use Rattle.ild_schema.specs.Clashes.{is_field_again, is_value_again, is_member_again, are_equal, are_same, discriminant_of, has_field, is_key_taken}
-use Rattle.ild_schema.specs.Marks.{text_of, field_text, is_marked, is_valued, member_text, member_integer}
+use Rattle.ild_schema.specs.Marks.{mark_text, field_text, is_marked, is_valued, member_text, member_integer}
 use Rattle.ild_schema.specs.Parts.{is_text, part_named, part_spelled}
 use Rattle.ild_schema.specs.Table.{def_at}
 use Rattle.ild_accept_rules.specs.inside.Seen.{first_named, first_spelled, is_before, is_one, is_seen}
@@ -222,17 +222,17 @@ told_here : (text : List ℕ) (o : Option (List ℕ)) → is_text text o ≡ is_
 told_here text None = refl
 told_here text (Some t) = refl
 
-told_of : (form : UnionForm) (ms : List Member) (i : ℕ) (o : Option (List ℕ)) → ((t : List ℕ) (g : Member) → is_text t (text_of g.mark) ≡ is_marked form g && are_same (Some t) (discriminant_of form g))
-    → option_map_or (λ t. is_before i (position_from (λ g. is_text t (text_of g.mark)) 0 ms)) o false ≡ list_any (λ g. is_marked form g && are_same o (discriminant_of form g)) (take i ms)
+told_of : (form : UnionForm) (ms : List Member) (i : ℕ) (o : Option (List ℕ)) → ((t : List ℕ) (g : Member) → is_text t (mark_text g.mark) ≡ is_marked form g && are_same (Some t) (discriminant_of form g))
+    → option_map_or (λ t. is_before i (position_from (λ g. is_text t (mark_text g.mark)) 0 ms)) o false ≡ list_any (λ g. is_marked form g && are_same o (discriminant_of form g)) (take i ms)
 told_of form ms i None is = sym (any_never (is_marked form) (take i ms))
-told_of form ms i (Some t) is = before_is (λ g. is_text t (text_of g.mark)) ms i ∙ any_same (λ g. is_text t (text_of g.mark)) (λ g. is_marked form g && are_same (Some t) (discriminant_of form g)) (is t) (take i ms)
+told_of form ms i (Some t) is = before_is (λ g. is_text t (mark_text g.mark)) ms i ∙ any_same (λ g. is_text t (mark_text g.mark)) (λ g. is_marked form g && are_same (Some t) (discriminant_of form g)) (is t) (take i ms)
 
 -- the discriminant of a member of a union beside those of members before it
 told_among : (form : UnionForm) (m : Member) (ms : List Member) (i : ℕ)
-    → option_map_or (λ t. is_before i (position_from (λ g. is_text t (text_of g.mark)) 0 ms)) (discriminant_of form m) false ≡ list_any (λ g. is_marked form g && are_same (discriminant_of form m) (discriminant_of form g)) (take i ms)
-told_among U.Keyed m ms i = told_of U.Keyed ms i (text_of m.mark) (λ t g. told_here t (text_of g.mark))
-told_among (U.Envelope d c) m ms i = told_of (U.Envelope d c) ms i (text_of m.mark) (λ t g. told_here t (text_of g.mark))
-told_among (U.Inline d) m ms i = told_of (U.Inline d) ms i (text_of m.mark) (λ t g. told_here t (text_of g.mark))
+    → option_map_or (λ t. is_before i (position_from (λ g. is_text t (mark_text g.mark)) 0 ms)) (discriminant_of form m) false ≡ list_any (λ g. is_marked form g && are_same (discriminant_of form m) (discriminant_of form g)) (take i ms)
+told_among U.Keyed m ms i = told_of U.Keyed ms i (mark_text m.mark) (λ t g. told_here t (mark_text g.mark))
+told_among (U.Envelope d c) m ms i = told_of (U.Envelope d c) ms i (mark_text m.mark) (λ t g. told_here t (mark_text g.mark))
+told_among (U.Inline d) m ms i = told_of (U.Inline d) ms i (mark_text m.mark) (λ t g. told_here t (mark_text g.mark))
 told_among U.Kinded m ms i = sym (any_never (is_marked U.Kinded) (take i ms))
 told_among U.StringPrefix m ms i = sym (any_never (is_marked U.StringPrefix) (take i ms))
 told_among U.BytesPrefix m ms i = sym (any_never (is_marked U.BytesPrefix) (take i ms))

@@ -16,7 +16,7 @@ use Rattle.ild_schema.specs.Slots.{form_of, plainly}
 use Rattle.ild_schema.specs.Value as V
 use Rattle.ild_schema.specs.Value.{Value, Values, Pairs, Optionals, height, values_height, pairs_height, optionals_height, values_list, pairs_list, optionals_list}
 use Rattle.ild_typed.specs.Fits.{Fits, FitsPast, FormFits, ValueFits}
-use Rattle.ild_typed.specs.Layers.{FieldsFit, Shows}
+use Rattle.ild_typed.specs.Layers.{FieldsFit, RepresentsSome}
 use Rattle.ild_typed.specs.Levels.{levels_of, map_levels, struct_levels}
 use Rattle.ild_typed.proofs.FormOf.{member_there, list_form, map_form, struct_form, union_form}
 
@@ -38,7 +38,7 @@ module _ (rows : List Row) (room : ℕ) (below : ℕ → Slot → Value → Type
   values_high o u V.no_values all some = omega (arith, some)
   values_high o u (V.value v vs) all some = let a = bound o u v all.0 in let b = values_high o u vs all.1 some in omega (arith, a, b)
 
-  pairs_high : (o : ℕ) (key : TypeNo) (u : Slot) (ps : Pairs) → AllByRecursion (λ p. IsUtf8 p.0 × Shows (below o) rows (plainly key) (T.text p.0) × below o u p.1) (pairs_list ps) → 1 ≤ room → pairs_height ps + 1 ≤ room
+  pairs_high : (o : ℕ) (key : TypeNo) (u : Slot) (ps : Pairs) → AllByRecursion (λ p. IsUtf8 p.0 × RepresentsSome (below o) rows (plainly key) (T.text p.0) × below o u p.1) (pairs_list ps) → 1 ≤ room → pairs_height ps + 1 ≤ room
   pairs_high o key u V.no_pairs all some = omega (arith, some)
   pairs_high o key u (V.pair k v ps) all some = let a = bound o u v all.0.2 in let b = pairs_high o key u ps all.1 some in omega (arith, a, b)
 

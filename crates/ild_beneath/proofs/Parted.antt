@@ -14,7 +14,7 @@ use Rattle.ild_open_held.specs.Splits.{Part, element_parts, entry_parts, field_p
 use Rattle.ild_schema.specs.Clear.{AreNamesApart, ClearStruct, ClearUnion, ClearType}
 use Rattle.ild_schema.specs.DataKinds.{kind_number, same_kind}
 use Rattle.ild_schema.specs.Hex.{bytes_of_hex}
-use Rattle.ild_schema.specs.Marks.{field_text, text_of as mark_text, kind_of as mark_kind}
+use Rattle.ild_schema.specs.Marks.{field_text, mark_text, mark_kind}
 use Rattle.ild_schema.specs.declared.def.Field.{Field}
 use Rattle.ild_schema.specs.declared.def.MapForm.TheVariants as MF
 use Rattle.ild_schema.specs.declared.def.Member.{Member}
@@ -29,7 +29,7 @@ use Rattle.ild_schema.specs.declared.def.UnionForm.TheVariants as UF
 use Rattle.ild_schema.specs.declared.number.Slot.{Slot}
 use Rattle.ild_typed.specs.Composed.{Hamts, composed, struct_form, marked_form, member_form, inlined}
 use Rattle.ild_typed.specs.Fields.{is_implicit, field_entries, are_absent, tuple_items, all_items}
-use Rattle.ild_typed.specs.Kinds.{kind_of}
+use Rattle.ild_typed.specs.Kinds.{kind_word_of}
 use Rattle.ild_typed.specs.Layer as L
 use Rattle.ild_typed.specs.Layer.{Layer}
 use Rattle.ild_typed.specs.Named.{pair_entries, where_some}
@@ -201,18 +201,18 @@ module _ {X : Type 0} (f : Part → List X) (none : (p : Part) → IsFlat p.1 �
       ap (union_parts UF.Keyed ms) (sym (same_Some (map_data ((x.item, d) ∷ [])) t x.made))
       ∙ text_member UF.Keyed ms n m x.item d (λ i j k l a b s c u. clear.apart i j k l a b (s, c, u)) at x.there
   of_member UF.Kinded ms clear n m d t at e hard =
-      let x = then_from (λ w. cond (same_kind w (kind_of d)) (Some d) None) (mark_kind m.mark) t e in
-      let y = true_from (same_kind x.item (kind_of d)) d t x.made in
+      let x = then_from (λ w. cond (same_kind w (kind_word_of d)) (Some d) None) (mark_kind m.mark) t e in
+      let y = true_from (same_kind x.item (kind_word_of d)) d t x.made in
       ap (union_parts UF.Kinded ms) (sym y.1)
-      ∙ picked (has_kind (kind_of d)) ms n m d at (there_told (λ w. same_kind w (kind_of d)) (mark_kind m.mark) x.item x.there y.0)
+      ∙ picked (has_kind (kind_word_of d)) ms n m d at (there_told (λ w. same_kind w (kind_word_of d)) (mark_kind m.mark) x.item x.there y.0)
       (λ j k there holds.
-      let z = told_there (λ w. same_kind w (kind_of d)) (mark_kind k.mark) holds in
+      let z = told_there (λ w. same_kind w (kind_word_of d)) (mark_kind k.mark) holds in
       clear.apart j n k m there at (
         z.item,
         x.item,
         z.is,
         x.there,
-        eq-eqb (kind_number z.item) (kind_number x.item) (eqb-true (kind_number z.item) (kind_number (kind_of d)) z.holds ∙ sym (eqb-true (kind_number x.item) (kind_number (kind_of d)) y.0)),
+        eq-eqb (kind_number z.item) (kind_number x.item) (eqb-true (kind_number z.item) (kind_number (kind_word_of d)) z.holds ∙ sym (eqb-true (kind_number x.item) (kind_number (kind_word_of d)) y.0)),
       ))
   of_member UF.StringPrefix ms clear n m d t at e hard =
       let x = then_from (marked_form UF.StringPrefix d) (mark_text m.mark) t e in

@@ -8,7 +8,7 @@ use Rattle.ild_data.specs.Data.{Data}
 use Rattle.ild_data.specs.Key.{same_text, value_at, without}
 use Rattle.ild_open_held.specs.Splits.{Part, element_parts, entry_parts, field_parts}
 use Rattle.ild_schema.specs.DataKinds.{same_kind}
-use Rattle.ild_schema.specs.Marks.{field_text, text_of as mark_text, kind_of as mark_kind}
+use Rattle.ild_schema.specs.Marks.{field_text, mark_text, mark_kind}
 use Rattle.ild_schema.specs.declared.def.Field.{Field}
 use Rattle.ild_schema.specs.declared.def.KindWord.{KindWord}
 use Rattle.ild_schema.specs.declared.def.MapForm.{MapForm}
@@ -21,7 +21,7 @@ use Rattle.ild_schema.specs.declared.def.TypeDef.TheVariants as D
 use Rattle.ild_schema.specs.declared.def.UnionForm.{UnionForm}
 use Rattle.ild_schema.specs.declared.def.UnionForm.TheVariants as UF
 use Rattle.ild_schema.specs.declared.number.Slot.{Slot}
-use Rattle.ild_typed.specs.Kinds.{kind_of}
+use Rattle.ild_typed.specs.Kinds.{kind_word_of}
 use Rattle.ild_typed.specs.Layer as L
 use Rattle.ild_typed.specs.Layer.{Layer}
 use Rattle.ild_typed.specs.Named.{pair_entries, where_some}
@@ -83,7 +83,7 @@ marked_part ms k d = []
 
 abbrev pub union_parts : UnionForm → List Member → Data → List Part
 union_parts UF.Keyed ms (T.map (T.member k d es)) = member_part (has_text k) ms d
-union_parts UF.Kinded ms t = member_part (has_kind (kind_of t)) ms t
+union_parts UF.Kinded ms t = member_part (has_kind (kind_word_of t)) ms t
 union_parts (UF.Envelope key content) ms (T.map es) = marked_part ms (value_at key (T.members_list es)) (value_at content (T.members_list es))
 union_parts (UF.Inline key) ms (T.map es) = marked_part ms (value_at key (T.members_list es)) (Some (map_data (without key (T.members_list es))))
 union_parts form ms t = []

@@ -5,7 +5,7 @@ use Rattle.std.proofs.lemmas.Bool.{false≢true, false_from_ne_true}
 use Rattle.std.proofs.lemmas.List.{map-append}
 use Rattle.std.specs.Option.{option_map_or}
 use Rattle.ild_beneath.specs.Children.{Child, element_children, entry_children, found, kind_in, node_children}
-use Rattle.ild_cbor.specs.Nodes.{Stands}
+use Rattle.ild_cbor.specs.Nodes.{HasData}
 use Rattle.ild_cbor.specs.Steps.{FindsItems, HasItems, ItemsGive, items_of}
 use Rattle.ild_cbor.specs.declared.items.Items.{Items}
 use Rattle.ild_cbor.specs.declared.node.Node.{Node}
@@ -31,7 +31,7 @@ use Rattle.ild_typed.specs.NodeReading.{id_in, links_block, pair_in}
 use Rattle.ild_beneath.specs.Parts.{named_parts}
 use Rattle.ild_beneath.proofs.Nodes.{flat_append}
 use Rattle.ild_beneath_read.specs.inside.Left.{IsLeft, OfFields, OfItems, SplitsOff, in_slot, value_parts}
-use Rattle.ild_beneath_read.specs.inside.Opened.{IsElements, Opens}
+use Rattle.ild_beneath_read.specs.inside.Opened.{IsElements, TellsParts}
 use Rattle.ild_beneath_read.specs.inside.Pairs.{IsPairOf}
 use Rattle.ild_beneath_read.specs.inside.Pushes.{Pushes, told}
 use Rattle.ild_beneath_read.proofs.Looking.{named_is}
@@ -58,7 +58,7 @@ module _ (rows : List Row) (steps : ℕ) where
     pub going_past : SplitsOff h.rest None behind → Going old ps behind now
     going_past x = record { rest = x.others; are = x.left; pushed = ap (λ qs. map child_seen now ++ flat_map (told rows steps) qs) (sym x.first) ∙ h.pushed }
 
-    pub going_on : (u : Slot) (n : Node) (new : List Kept) → SplitsOff h.rest (Some (u, n)) behind → ((d : Data) → Stands n d → map child_seen new ≡ map child_seen now ++ found rows steps u d) → Going old ps behind new
+    pub going_on : (u : Slot) (n : Node) (new : List Kept) → SplitsOff h.rest (Some (u, n)) behind → ((d : Data) → HasData n d → map child_seen new ≡ map child_seen now ++ found rows steps u d) → Going old ps behind new
     going_on u n new x pushes =
         let d : Data = x.first.0 in
         record {
@@ -80,7 +80,7 @@ module _ (f : Data → List Child) (kind : ℕ) where
     pub pushed : map child_seen now ++ all_told rest ≡ map child_seen old ++ whole
 
   module _ (old : List Kept) (whole : List Child) (left behind : Items) (now : List Kept) (h : Walking old whole left now) where
-    pub walking_on : (n : Node) (new : List Kept) → ItemsGive left (Some n) behind → ((d : Data) → Stands n d → map child_seen new ≡ map child_seen now ++ element_children f kind d) → Walking old whole behind new
+    pub walking_on : (n : Node) (new : List Kept) → ItemsGive left (Some n) behind → ((d : Data) → HasData n d → map child_seen new ≡ map child_seen now ++ element_children f kind d) → Walking old whole behind new
     walking_on n new gives pushes =
         let x = item_step left h.rest n behind gives h.are in
         record {
@@ -92,7 +92,7 @@ module _ (f : Data → List Child) (kind : ℕ) where
 
 -- ---- the elements that there are
 
-elements_found : (d : Data) (a b : Node) (s : Items) → IsPairOf (pair_in d) (Some (a, b)) → ((e : Data) → Stands b e → FindsItems b (items_of e) (Some s)) → IsElements d (Some s)
+elements_found : (d : Data) (a b : Node) (s : Items) → IsPairOf (pair_in d) (Some (a, b)) → ((e : Data) → HasData b e → FindsItems b (items_of e) (Some s)) → IsElements d (Some s)
 elements_found (T.list T.no_items) a b s pair items = absurd pair
 elements_found (T.list (T.item x T.no_items)) a b s pair items = absurd pair
 elements_found (T.list (T.item x (T.item y T.no_items))) a b s pair items = by y (items y pair.1) where
@@ -102,7 +102,7 @@ elements_found (T.list (T.item x (T.item y T.no_items))) a b s pair items = by y
 elements_found (T.list (T.item x (T.item y (T.item z ds)))) a b s pair items = absurd pair
 elements_found d a b s pair items = absurd pair
 
-no_elements : (d : Data) (a b : Node) → IsPairOf (pair_in d) (Some (a, b)) → ((e : Data) → Stands b e → FindsItems b (items_of e) None) → IsElements d None
+no_elements : (d : Data) (a b : Node) → IsPairOf (pair_in d) (Some (a, b)) → ((e : Data) → HasData b e → FindsItems b (items_of e) None) → IsElements d None
 no_elements (T.list T.no_items) a b pair items = absurd pair
 no_elements (T.list (T.item x T.no_items)) a b pair items = absurd pair
 no_elements (T.list (T.item x (T.item y T.no_items))) a b pair items = by y (items y pair.1) where
@@ -112,7 +112,7 @@ no_elements (T.list (T.item x (T.item y T.no_items))) a b pair items = by y (ite
 no_elements (T.list (T.item x (T.item y (T.item z ds)))) a b pair items = absurd pair
 no_elements d a b pair items = absurd pair
 
-pub elements_result : (d : Data) (a b : Node) (r : Option Items) → IsPairOf (pair_in d) (Some (a, b)) → ((e : Data) → Stands b e → FindsItems b (items_of e) r) → IsElements d r
+pub elements_result : (d : Data) (a b : Node) (r : Option Items) → IsPairOf (pair_in d) (Some (a, b)) → ((e : Data) → HasData b e → FindsItems b (items_of e) r) → IsElements d r
 elements_result d a b None pair items = no_elements d a b pair items
 elements_result d a b (Some s) pair items = elements_found d a b s pair items
 
@@ -186,23 +186,23 @@ module _ (rows : List Row) (s : Slot) (t : Data) where
     stepped : found rows steps s t ≡ found rows (suc less) s t
     stepped = ap (λ k. found rows k s t) one
 
-    pub nothing_slot : Opens rows s t O.Nothing → found rows steps s t ≡ []
+    pub nothing_slot : TellsParts rows s t O.Nothing → found rows steps s t ≡ []
     nothing_slot h = stepped ∙ h.2 less ∙ ap (flat_map (told rows less)) h.1
 
-    pub parts_slot : (x : Parts) → Opens rows s t (O.Parts x) → (ps : List Part) × IsLeft x ps × (found rows steps s t ≡ flat_map (told rows less) ps)
+    pub parts_slot : (x : Parts) → TellsParts rows s t (O.Parts x) → (ps : List Part) × IsLeft x ps × (found rows steps s t ≡ flat_map (told rows less) ps)
     parts_slot x h = (h.0, h.1, stepped ∙ h.2 less)
 
-    pub named_slot : (fs : Fields) (x : MapEntries) → Opens rows s t (O.Named fs x) → (es : List (List ℕ × Data)) × HasLeft x es × (found rows steps s t ≡ flat_map (told rows less) (named_parts fs.def.now.fields es))
+    pub named_slot : (fs : Fields) (x : MapEntries) → TellsParts rows s t (O.Named fs x) → (es : List (List ℕ × Data)) × HasLeft x es × (found rows steps s t ≡ flat_map (told rows less) (named_parts fs.def.now.fields es))
     named_slot fs x h = (h.1.0, h.1.1, stepped ∙ h.2 less ∙ ap (flat_map (told rows less)) h.1.2)
 
-    pub listed_slot : (fs : Fields) (x : Items) → Opens rows s t (O.Listed fs x)
+    pub listed_slot : (fs : Fields) (x : Items) → TellsParts rows s t (O.Listed fs x)
         → (ds : T.Items) × HasItems x ds × (found rows steps s t ≡ flat_map (told rows less) (named_parts fs.def.now.fields (pair_entries (T.items_list ds))))
     listed_slot fs x h = (h.1.0, h.1.1, stepped ∙ h.2 less ∙ ap (flat_map (told rows less)) h.1.2)
 
-    pub member_slot : (u : Slot) (p : Piece) → Opens rows s t (O.Member u p) → (d : Data) × StandsFor rows p d × (found rows steps s t ≡ found rows less u d)
+    pub member_slot : (u : Slot) (p : Piece) → TellsParts rows s t (O.Member u p) → (d : Data) × StandsFor rows p d × (found rows steps s t ≡ found rows less u d)
     member_slot u p h = (h.1.0, h.1.1, stepped ∙ h.2 less ∙ ap (flat_map (told rows less)) h.1.2 ∙ append-nil (found rows less u h.1.0))
 
-    pub root_slot : (u : Slot) (n : Node) (kind : ℕ) → kind ≡ s.ty.0 + 1 → Opens rows s t (O.Root u n) → (d : Data) × Stands n d × (found rows steps s t ≡ node_children (found rows less u) kind d)
+    pub root_slot : (u : Slot) (n : Node) (kind : ℕ) → kind ≡ s.ty.0 + 1 → TellsParts rows s t (O.Root u n) → (d : Data) × HasData n d × (found rows steps s t ≡ node_children (found rows less u) kind d)
     root_slot u n kind is h =
         let same : kind_in s ≡ kind = omega (arith, is) in
         (h.0, h.1, stepped ∙ h.2 less ∙ ap (λ k. node_children (found rows less u) k h.0) same)

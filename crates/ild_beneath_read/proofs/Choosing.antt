@@ -6,7 +6,7 @@ use Rattle.std.specs.Option.{option_and_then}
 use Rattle.std.specs.Prelude.{is_some, pos, slice_get}
 use Rattle.std.proofs.lemmas.Option.{none-some, same_Some}
 use Rattle.ild_beneath.specs.Parts.{has_text, marked_part, member_part, union_parts}
-use Rattle.ild_cbor.specs.Nodes.{Stands}
+use Rattle.ild_cbor.specs.Nodes.{HasData}
 use Rattle.ild_cbor.specs.Scalar.{kind_of as kind_in, text_of as text_found}
 use Rattle.ild_cbor.specs.declared.kind.Kind.{Kind}
 use Rattle.ild_cbor.specs.declared.kind.Kind.TheVariants as K
@@ -22,7 +22,7 @@ use Rattle.ild_layer_piece.specs.Entries.{EntriesGive, Found, Maps}
 use Rattle.ild_layer_piece.specs.Pieces.{IsNumbered, IsWithout, StandsFor, passed_key}
 use Rattle.ild_layer_piece.specs.declared.walk.MapEntries.{MapEntries}
 use Rattle.ild_schema.specs.Made.{MadeMember}
-use Rattle.ild_schema.specs.Marks.{text_of as mark_text}
+use Rattle.ild_schema.specs.Marks.{mark_text}
 use Rattle.ild_schema.specs.Parts.{is_text, part_spelled}
 use Rattle.ild_schema.specs.Rules.{is_map_form, is_map_struct}
 use Rattle.ild_schema.specs.declared.def.Member.{Member}
@@ -163,7 +163,7 @@ record AtKey (t : Data) (k : List ℕ) (n : Node) : Type 0 where
   pub is : t ≡ T.map members
   pub value : Data
   pub there : value_at k (T.members_list members) ≡ Some value
-  pub stands : Stands n value
+  pub stands : HasData n value
 
 at_key : (t : Data) (k : List ℕ) (n : Node) → Found (option_and_then (value_at k) (members_in t)) (Some n) → AtKey t k n
 at_key (T.map ms) k n found = by (value_at k (T.members_list ms)) refl found where
@@ -179,7 +179,7 @@ text_is d k e = absurd (none-some k (sym e))
 module _ (rows : List Row) (ms : List Member) (key : List ℕ) (t : Data) where
   module _ (content : List ℕ) where
     module _ (mark : Node) (found : Found (option_and_then (value_at key) (members_in t)) (Some mark)) where
-      pub envelope_parted : (name : List ℕ) (n : Node) → ((d : Data) → Stands mark d → Some name ≡ text_found d) → Found (option_and_then (value_at content) (members_in t)) (Some n)
+      pub envelope_parted : (name : List ℕ) (n : Node) → ((d : Data) → HasData mark d → Some name ≡ text_found d) → Found (option_and_then (value_at content) (members_in t)) (Some n)
           → Parted rows (union_parts (UF.Envelope key content) ms t) (opened_member (slot_found (has_text name) ms) (Q.Node n))
       envelope_parted name n text held =
           let x = at_key t key mark found in
@@ -194,13 +194,13 @@ module _ (rows : List Row) (ms : List Member) (key : List ℕ) (t : Data) where
   -- ---- among the own entries
 
   module _ (mark : Node) (found : Found (option_and_then (value_at key) (members_in t)) (Some mark)) where
-    pub inline_parted : (name : List ℕ) (n : Node) (own : ℕ) → passed_key rows own ≡ Some key → Stands n t → ((d : Data) → Stands mark d → Some name ≡ text_found d)
+    pub inline_parted : (name : List ℕ) (n : Node) (own : ℕ) → passed_key rows own ≡ Some key → HasData n t → ((d : Data) → HasData mark d → Some name ≡ text_found d)
         → Parted rows (union_parts (UF.Inline key) ms t) (opened_member (slot_found (has_text name) ms) (Q.Inline n own))
     inline_parted name n own passed stands text =
         let x = at_key t key mark found in
         let left : Data = map_data (without key (T.members_list x.members)) in
         let without_it : IsWithout (passed_key rows own) n left
-        = record { key = key; key_is = passed; entries = x.members; stands = subst (Stands n) x.is stands; has = ap is_some x.there; rest = refl } in
+        = record { key = key; key_is = passed; entries = x.members; stands = subst (HasData n) x.is stands; has = ap is_some x.there; rest = refl } in
         let whole : union_parts (UF.Inline key) ms t ≡ member_part (has_text name) ms left
         = ap (union_parts (UF.Inline key) ms) x.is ∙ ap (λ o. marked_part ms o (Some left)) (x.there ∙ ap Some (text_is x.value name (text x.value x.stands))) in
         subst (λ ps. Parted rows ps (opened_member (slot_found (has_text name) ms) (Q.Inline n own))) (sym whole) (member_parted rows (has_text name) ms left (Q.Inline n own) without_it)

@@ -5,7 +5,7 @@ use Rattle.std.specs.Cmp.Lexicographic.{same_text as text_same}
 use Rattle.std.specs.List.{AllByRecursion}
 use Rattle.std.specs.Option.{option_or}
 use Rattle.std.specs.Prelude.{◌<◌, ◌≤◌, get_or, replicate, slice_set}
-use Rattle.ild_cbor.specs.Nodes.{Stands}
+use Rattle.ild_cbor.specs.Nodes.{HasData}
 use Rattle.ild_cbor.specs.Steps.{HasItems, ItemsGive}
 use Rattle.ild_cbor.specs.declared.items.Items.{Items}
 use Rattle.ild_cbor.specs.declared.node.Node.{Node}
@@ -85,13 +85,13 @@ module _ (es : List (List ℕ × Data)) (k : List ℕ) (d : Data) where
   named_other q m other h =
       subst (λ o. Found o m) (sym (value_more q k d es ∙ ap (λ b. option_or (value_at q es) (cond b (Some d) None)) other ∙ or_none (value_at q es))) h
 
-  kept : (o : Option Data) (m : Option Node) (n : Node) → Found o m → Stands n d → Found (option_or o (Some d)) (first_kept m n)
+  kept : (o : Option Data) (m : Option Node) (n : Node) → Found o m → HasData n d → Found (option_or o (Some d)) (first_kept m n)
   kept None None n h stands = stands
   kept None (Some m) n h stands = absurd h
   kept (Some x) None n h stands = absurd h
   kept (Some x) (Some m) n h stands = h
 
-  named_here : (q : List ℕ) (m : Option Node) (n : Node) → same_text q k ≡ true → Found (value_at q es) m → Stands n d → Found (value_at q more) (first_kept m n)
+  named_here : (q : List ℕ) (m : Option Node) (n : Node) → same_text q k ≡ true → Found (value_at q es) m → HasData n d → Found (value_at q more) (first_kept m n)
   named_here q m n here h stands =
       subst (λ o. Found o (first_kept m n)) (sym (value_more q k d es ∙ ap (λ b. option_or (value_at q es) (cond b (Some d) None)) here)) (kept (value_at q es) m n h stands)
 
@@ -111,7 +111,7 @@ module _ (es : List (List ℕ × Data)) (k : List ℕ) (d : Data) where
   other_names f is [] all = tt
   other_names f is (g ∷ gs) all = (other_name f g all.0 is, other_names f is gs all.1)
 
-  looked_more : (fs : List Field) (n : Node) (ns : List (Option Node)) → AreNamesApart fs → Stands n d → AllFound (looked_up fs es) ns → AllFound (looked_up fs more) (noted (place_of fs k) n ns)
+  looked_more : (fs : List Field) (n : Node) (ns : List (Option Node)) → AreNamesApart fs → HasData n d → AllFound (looked_up fs es) ns → AllFound (looked_up fs more) (noted (place_of fs k) n ns)
   looked_more [] n [] apart stands h = tt
   looked_more [] n (m ∷ ns) apart stands h = absurd h
   looked_more (f ∷ fs) n [] apart stands h = absurd h
@@ -163,7 +163,7 @@ pub search_first : (fs : List Field) (ds : T.Items) (s : Items) (ns : List (Opti
 search_first fs ds s ns none left = record { done = []; rest = ds; is = refl; left = left; found = none }
 
 module _ (fs : List Field) (ds : T.Items) (s t : Items) (n : Node) (ns : List (Option Node)) (gives : ItemsGive s (Some n) t) (h : Searching fs ds s ns) where
-  pub search_past : ((d : Data) → Stands n d → IsNamed (entry_of (items_or d)) None) → Searching fs ds t ns
+  pub search_past : ((d : Data) → HasData n d → IsNamed (entry_of (items_or d)) None) → Searching fs ds t ns
   search_past none =
       let x = item_step s h.rest n t gives h.left in
       let empty : pair_entries (T.items_list h.rest) ≡ pair_entries (T.items_list x.rest)
@@ -174,7 +174,7 @@ module _ (fs : List Field) (ds : T.Items) (s t : Items) (n : Node) (ns : List (O
       by [] none = refl
       by (e ∷ es) none = absurd none
 
-  pub search_on : (k : Bor (List ℕ)) (v : Node) (place : ℕ) (ms : List (Option Node)) → AreNamesApart fs → ((d : Data) → Stands n d → IsNamed (entry_of (items_or d)) (Some (k, v))) → place ≡ place_of fs k.now
+  pub search_on : (k : Bor (List ℕ)) (v : Node) (place : ℕ) (ms : List (Option Node)) → AreNamesApart fs → ((d : Data) → HasData n d → IsNamed (entry_of (items_or d)) (Some (k, v))) → place ≡ place_of fs k.now
       → ms ≡ noted place v ns → Searching fs ds t ms
   search_on k v place ms apart named at new =
       let x = item_step s h.rest n t gives h.left in
@@ -190,7 +190,7 @@ module _ (fs : List Field) (ds : T.Items) (s t : Items) (n : Node) (ns : List (O
         found = subst (AllFound (looked_up fs (h.done ++ one))) (sym (new ∙ ap (λ i. noted i v ns) at)) (looked_more h.done k.now y.0 fs v ns apart y.2 h.found);
       }
     where
-      by : (es : List (List ℕ × Data)) → IsNamed es (Some (k, v)) → (d : Data) × (es ≡ (k.now, d) ∷ []) × Stands v d
+      by : (es : List (List ℕ × Data)) → IsNamed es (Some (k, v)) → (d : Data) × (es ≡ (k.now, d) ∷ []) × HasData v d
       by [] named = absurd named
       by (e ∷ es) named = (e.1, ap (λ gs. e ∷ gs) named.0 ∙ ap (λ (q : List ℕ). (q, e.1) ∷ []) (sym named.1), named.2)
 

@@ -38,7 +38,7 @@ use Rattle.ild_schema.specs.declared.row.Row.{Row}
 use Rattle.ild_typed.specs.Named.{items_in, pair_entries}
 use Rattle.ild_typed.specs.Strings.{members_in}
 use Rattle.ild_beneath_read.specs.inside.Left.{FieldsIn, OfEntries, OfItems}
-use Rattle.ild_beneath_read.specs.inside.Opened.{MembersIn, Opens, OpensRoot, Parted, is_leaf}
+use Rattle.ild_beneath_read.specs.inside.Opened.{MembersIn, TellsParts, OpensRoot, Parted, is_leaf}
 use Rattle.ild_beneath_read.specs.inside.Pushes.{told}
 use Rattle.ild_beneath_read.specs.declared.opened.Opened.{Opened}
 use Rattle.ild_beneath_read.specs.declared.opened.Opened.TheVariants as O
@@ -150,7 +150,7 @@ form_is rows s n there d at is same = ap (def_at rows) (sym at) ∙ is ∙ ap So
 -- ---- what data in a slot tell
 
 module _ (rows : List Row) (s : Slot) (t : Data) where
-  pub leaf_opens : is_flat t ≡ true → Opens rows s t O.Nothing
+  pub leaf_opens : is_flat t ≡ true → TellsParts rows s t O.Nothing
   unfolding found
   leaf_opens flat = ([], refl, λ k. ap (λ b. cond b [] (by_form (found rows k) s (form_of rows s) t)) flat)
 
@@ -159,7 +159,7 @@ module _ (rows : List Row) (s : Slot) (t : Data) where
     unfolding found
     found_by k = ap (λ b. cond b [] (by_form (found rows k) s (form_of rows s) t)) flat ∙ ap (λ o. by_form (found rows k) s o t) form
 
-    pub parts_open : ((k : ℕ) → by_form (found rows k) s (Some d) t ≡ flat_map (told rows k) (parts_of d t)) → (o : Opened) → Parted rows (parts_of d t) o → Opens rows s t o
+    pub parts_open : ((k : ℕ) → by_form (found rows k) s (Some d) t ≡ flat_map (told rows k) (parts_of d t)) → (o : Opened) → Parted rows (parts_of d t) o → TellsParts rows s t o
     parts_open plain O.Nothing h = (parts_of d t, h, λ k. found_by k ∙ plain k)
     parts_open plain (O.Parts x) h = (parts_of d t, h, λ k. found_by k ∙ plain k)
     parts_open plain (O.Named fs x) h = (parts_of d t, h, λ k. found_by k ∙ plain k)
@@ -175,7 +175,7 @@ module _ (rows : List Row) (s : Slot) (t : Data) where
   map_plain key key_at value at (MF.StringPairs inner entry) not_hamt k = refl
   map_plain key key_at value at (MF.Hamt p) not_hamt k = absurd (not_hamt p refl)
 
-  pub hamt_opens : is_flat t ≡ false → (p : HamtShape) (key : TypeNo) (key_at : ℕ) (value : Slot) (at : ℕ) → form_of rows s ≡ Some (D.Map key key_at value at (MF.Hamt p)) → (o : Opened) → OpensRoot value t o → Opens rows s t o
+  pub hamt_opens : is_flat t ≡ false → (p : HamtShape) (key : TypeNo) (key_at : ℕ) (value : Slot) (at : ℕ) → form_of rows s ≡ Some (D.Map key key_at value at (MF.Hamt p)) → (o : Opened) → OpensRoot value t o → TellsParts rows s t o
   hamt_opens flat p key key_at value at form O.Nothing h = ([], refl, λ k. found_by flat (D.Map key key_at value at (MF.Hamt p)) form k ∙ h (found rows k value) (kind_in s))
   hamt_opens flat p key key_at value at form (O.Root v n) h =
       (h.1, h.2, λ k. found_by flat (D.Map key key_at value at (MF.Hamt p)) form k ∙ h.3 (found rows k value) (kind_in s) ∙ ap (λ u. node_children (found rows k u) (kind_in s) h.1) (sym h.0))
@@ -195,5 +195,5 @@ module _ (rows : List Row) (s : Slot) (t : Data) where
 
   pub other_opens : is_flat t ≡ false → (d : TypeDef) → form_of rows s ≡ Some d → ((elem : Slot) (at : ℕ) → d ≡ D.List elem at → ⊥)
       → ((key : TypeNo) (key_at : ℕ) (value : Slot) (at : ℕ) (form : MapForm) → d ≡ D.Map key key_at value at form → ⊥)
-      → ((x : StructDef) → d ≡ D.Struct x → ⊥) → ((x : UnionDef) → d ≡ D.Union x → ⊥) → Opens rows s t O.Nothing
+      → ((x : StructDef) → d ≡ D.Struct x → ⊥) → ((x : UnionDef) → d ≡ D.Union x → ⊥) → TellsParts rows s t O.Nothing
   other_opens flat d form no_list no_map no_struct no_union = ([], refl, λ k. found_by flat d form k ∙ other_plain d no_list no_map no_struct no_union k)

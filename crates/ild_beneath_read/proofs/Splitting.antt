@@ -1,7 +1,7 @@
 -- The first of the parts that are left.
 use Rattle.std.proofs.Common.{◌≡◌, ℕ, List, [], ◌∷◌, ◌++◌, Option, Some, None, option_map, refl, ap, ◌∙◌}
 use Rattle.std.specs.Borrow.{Bor}
-use Rattle.ild_cbor.specs.Nodes.{Stands}
+use Rattle.ild_cbor.specs.Nodes.{HasData}
 use Rattle.ild_cbor.specs.Steps.{HasItems, ItemsGive}
 use Rattle.ild_cbor.specs.declared.items.Items.{Items}
 use Rattle.ild_cbor.specs.declared.node.Node.{Node}
@@ -23,7 +23,7 @@ use Rattle.ild_beneath_read.specs.declared.parts.Parts.TheVariants as P
 
 record OneMore (parts : List Data → List Part) (t : Items) (n : Node) (ps : List Part) : Type 0 where
   pub one : Data
-  pub stands : Stands n one
+  pub stands : HasData n one
   pub rest : T.Items
   pub left : HasItems t rest
   pub is : ps ≡ parts (one ∷ T.items_list rest)
@@ -48,7 +48,7 @@ module _ (u : Slot) (s t : Items) (n : Node) (ps : List Part) (gives : ItemsGive
   abbrev pairs : List Data → List Part
   pairs ds = entry_parts u (pair_entries ds)
 
-  pair_first : (k : Bor (List ℕ)) (v : Node) (es fs : List (List ℕ × Data)) → IsNamed es (Some (k, v)) → (d : Data) × Stands v d × (entry_parts u (es ++ fs) ≡ (u, d) ∷ entry_parts u fs)
+  pair_first : (k : Bor (List ℕ)) (v : Node) (es fs : List (List ℕ × Data)) → IsNamed es (Some (k, v)) → (d : Data) × HasData v d × (entry_parts u (es ++ fs) ≡ (u, d) ∷ entry_parts u fs)
   pair_first k v [] fs h = absurd h
   pair_first k v (e ∷ es) fs h = (e.1, h.2, ap (λ gs. (u, e.1) ∷ entry_parts u (gs ++ fs)) h.0)
 
@@ -56,13 +56,13 @@ module _ (u : Slot) (s t : Items) (n : Node) (ps : List Part) (gives : ItemsGive
   pair_none [] fs h = refl
   pair_none (e ∷ es) fs h = absurd h
 
-  pub split_pair : (k : Bor (List ℕ)) (v : Node) → ((d : Data) → Stands n d → IsNamed (entry_of (items_or d)) (Some (k, v))) → OfItems pairs s ps → SplitsOff ps (Some (u, v)) (P.Pairs u t)
+  pub split_pair : (k : Bor (List ℕ)) (v : Node) → ((d : Data) → HasData n d → IsNamed (entry_of (items_or d)) (Some (k, v))) → OfItems pairs s ps → SplitsOff ps (Some (u, v)) (P.Pairs u t)
   split_pair k v named h =
       let x = one_more pairs s t ps h n gives in
       let y = pair_first k v (entry_of (items_or x.one)) (pair_entries (T.items_list x.rest)) (named x.one x.stands) in
       record { others = pairs (T.items_list x.rest); first = (y.0, y.1, x.is ∙ y.2); left = record { items = x.rest; left = x.left; is = refl } }
 
-  pub pass_pair : ((d : Data) → Stands n d → IsNamed (entry_of (items_or d)) None) → OfItems pairs s ps → SplitsOff ps None (P.Pairs u t)
+  pub pass_pair : ((d : Data) → HasData n d → IsNamed (entry_of (items_or d)) None) → OfItems pairs s ps → SplitsOff ps None (P.Pairs u t)
   pass_pair named h =
       let x = one_more pairs s t ps h n gives in
       let y = pair_none (entry_of (items_or x.one)) (pair_entries (T.items_list x.rest)) (named x.one x.stands) in
@@ -70,7 +70,7 @@ module _ (u : Slot) (s t : Items) (n : Node) (ps : List Part) (gives : ItemsGive
 
   -- ---- entries of a bucket
 
-  held_first : (v : Node) (o : Option Data) (qs : List Part) → Found o (Some v) → (d : Data) × Stands v d × (in_slot u o ++ qs ≡ (u, d) ∷ qs)
+  held_first : (v : Node) (o : Option Data) (qs : List Part) → Found o (Some v) → (d : Data) × HasData v d × (in_slot u o ++ qs ≡ (u, d) ∷ qs)
   held_first v None qs h = absurd h
   held_first v (Some d) qs h = (d, h, refl)
 
@@ -78,13 +78,13 @@ module _ (u : Slot) (s t : Items) (n : Node) (ps : List Part) (gives : ItemsGive
   held_none None qs h = refl
   held_none (Some d) qs h = absurd h
 
-  pub split_held : (v : Node) → ((d : Data) → Stands n d → Found (option_map (λ p. p.1) (pair_in d)) (Some v)) → OfItems (value_parts u) s ps → SplitsOff ps (Some (u, v)) (P.Bucket u t)
+  pub split_held : (v : Node) → ((d : Data) → HasData n d → Found (option_map (λ p. p.1) (pair_in d)) (Some v)) → OfItems (value_parts u) s ps → SplitsOff ps (Some (u, v)) (P.Bucket u t)
   split_held v held h =
       let x = one_more (value_parts u) s t ps h n gives in
       let y = held_first v (option_map (λ p. p.1) (pair_in x.one)) (value_parts u (T.items_list x.rest)) (held x.one x.stands) in
       record { others = value_parts u (T.items_list x.rest); first = (y.0, y.1, x.is ∙ y.2); left = record { items = x.rest; left = x.left; is = refl } }
 
-  pub pass_held : ((d : Data) → Stands n d → Found (option_map (λ p. p.1) (pair_in d)) None) → OfItems (value_parts u) s ps → SplitsOff ps None (P.Bucket u t)
+  pub pass_held : ((d : Data) → HasData n d → Found (option_map (λ p. p.1) (pair_in d)) None) → OfItems (value_parts u) s ps → SplitsOff ps None (P.Bucket u t)
   pass_held held h =
       let x = one_more (value_parts u) s t ps h n gives in
       let y = held_none (option_map (λ p. p.1) (pair_in x.one)) (value_parts u (T.items_list x.rest)) (held x.one x.stands) in

@@ -6,11 +6,11 @@ ghost use Rattle.ild_data.specs.Data.{Data};
 ghost use Rattle.ild_layer_piece.specs.Pieces.{IsNumbered, StandsFor, passed_key};
 ghost use Rattle.ild_schema.specs.Copies.{base as base_of};
 ghost use Rattle.ild_schema.specs.DataKinds.{same_kind};
-ghost use Rattle.ild_schema.specs.Marks.{kind_of as mark_kind};
+ghost use Rattle.ild_schema.specs.Marks.{mark_kind};
 ghost use Rattle.ild_schema.specs.Rows.{def_at};
 ghost use Rattle.ild_schema.specs.declared.def.TypeDef.TheVariants as D;
 ghost use Rattle.ild_schema.specs.declared.def.UnionForm.TheVariants as UF;
-ghost use Rattle.ild_typed.specs.Kinds.{kind_of};
+ghost use Rattle.ild_typed.specs.Kinds.{kind_word_of};
 ghost use Rattle.ild_typed.specs.Named.{where_some};
 ghost use Rattle.ild_typed.specs.Slots.{slot_of};
 ghost use Rattle.ild_beneath_read.specs.inside.Opened.{AreMapStructs, IsReady, IsWhole, MembersIn, Parted, opened_member, slot_found};
@@ -32,14 +32,14 @@ fn slot_of(member: &Member) -> Slot
 
 // Whether a kind is the one that a schema names.
 fn is_word(word: KindWord, kind: Kind) -> bool
-    ensures { (t : Data) → kind ≡ kind_in t → result ≡ same_kind word (kind_of t) }
+    ensures { (t : Data) → kind ≡ kind_in t → result ≡ same_kind word (kind_word_of t) }
 {
     word as u8 == kind as u8
 }
 
 // Whether it is the one that stands behind a member.
 fn is_marked(mark: &Mark, kind: Kind) -> bool
-    ensures { (t : Data) → kind ≡ kind_in t → result ≡ where_some (λ k. same_kind k (kind_of t)) (mark_kind mark.now) }
+    ensures { (t : Data) → kind ≡ kind_in t → result ≡ where_some (λ k. same_kind k (kind_word_of t)) (mark_kind mark.now) }
 {
     match mark {
         Mark::Kind(word) => is_word(*word, kind),
@@ -49,7 +49,7 @@ fn is_marked(mark: &Mark, kind: Kind) -> bool
 
 // The slot of the first member of a kind.
 fn slot_by_kind(members: &[Member], kind: Kind) -> Option<Slot>
-    ensures { (t : Data) → kind ≡ kind_in t → result ≡ slot_found (has_kind (kind_of t)) members.now }
+    ensures { (t : Data) → kind ≡ kind_in t → result ≡ slot_found (has_kind (kind_word_of t)) members.now }
 {
     for member in members {
         if is_marked(&member.mark, kind) {

@@ -1,7 +1,7 @@
 //! The nodes of HAMTs.
 ghost use Rattle.std.specs.Prelude.{List};
 ghost use Rattle.ild_beneath.specs.Children.{Child as Told, element_children};
-ghost use Rattle.ild_cbor.specs.Nodes.{Stands};
+ghost use Rattle.ild_cbor.specs.Nodes.{HasData};
 ghost use Rattle.ild_data.specs.CidView.{cid_bytes};
 ghost use Rattle.ild_data.specs.Data.{Data, link};
 ghost use Rattle.ild_beneath_read.specs.inside.Opened.{IsElements};
@@ -15,7 +15,7 @@ use std::alloc::AllocError;
 
 /// The elements of a node, where an item is a list of two that ends with a list.
 pub(crate) fn elements_of<'b>(node: &Node<'b>) -> Option<Items<'b>>
-    ensures { (d : Data) → Stands node.now d → IsElements d result }
+    ensures { (d : Data) → HasData node.now d → IsElements d result }
 {
     match pair_of(node) {
         Some((_, elements)) => elements.items(),

@@ -8,7 +8,7 @@ ghost use Rattle.ild_schema.specs.Table.{IsWithin};
 ghost use Rattle.ild_schema.specs.declared.def.TypeDef.TheVariants as D;
 ghost use Rattle.ild_schema.specs.declared.row.Row.{Row};
 ghost use Rattle.ild_beneath_read.specs.inside.Left.{IsIn};
-ghost use Rattle.ild_beneath_read.specs.inside.Opened.{IsReady, Opens, OpensRoot, Parted, PassesInStruct, is_leaf};
+ghost use Rattle.ild_beneath_read.specs.inside.Opened.{IsReady, TellsParts, OpensRoot, Parted, PassesInStruct, is_leaf};
 
 use crate::member::open_union;
 use crate::opened::Opened;
@@ -112,7 +112,7 @@ pub(crate) fn opened<'b>(acc: &'b Accepted, slot: Slot, piece: &Piece<'b>) -> Op
     requires within { IsIn acc.now slot }
     requires numbered { IsNumbered acc.now piece.now }
     requires inlined { PassesInStruct acc.now slot piece.now }
-    ensures opens { (t : Data) → StandsFor acc.now piece.now t → Opens acc.now slot t result }
+    ensures opens { (t : Data) → StandsFor acc.now piece.now t → TellsParts acc.now slot t result }
     ensures ready { IsReady acc.now result }
 {
     if is_leaf(kind(piece)) {

@@ -3,7 +3,7 @@ ghost use Rattle.std.specs.Prelude.{◌<◌, List, ℕ};
 ghost use Rattle.std.specs.List.{flat_map};
 ghost use Rattle.ild_beneath.specs.Children.{element_children, found, node_children};
 ghost use Rattle.ild_beneath.specs.Parts.{named_parts};
-ghost use Rattle.ild_cbor.specs.Nodes.{Stands};
+ghost use Rattle.ild_cbor.specs.Nodes.{HasData};
 ghost use Rattle.ild_cbor.specs.Steps.{HasItems};
 ghost use Rattle.ild_data.specs.Data.{Data, Items as DataItems, items_list};
 ghost use Rattle.ild_layer_piece.specs.Entries.{HasLeft};
@@ -133,7 +133,7 @@ pub(crate) fn push_node<'b>(
     out: &mut Vec<Child>,
 ) -> Result<(), AllocError>
     requires { IsIn acc.now value }
-    ensures { (d : Data) → Stands node.now d → Pushes result out.old.items out.new.items (node_children (found acc.now steps value) kind d) }
+    ensures { (d : Data) → HasData node.now d → Pushes result out.old.items out.new.items (node_children (found acc.now steps value) kind d) }
 {
     let Some(elements) = elements_of(node) else {
         return Ok(());
@@ -157,7 +157,7 @@ fn push_element<'b>(
     out: &mut Vec<Child>,
 ) -> Result<(), AllocError>
     requires { IsIn acc.now value }
-    ensures { (d : Data) → Stands element.now d → Pushes result out.old.items out.new.items (element_children (found acc.now steps value) kind d) }
+    ensures { (d : Data) → HasData element.now d → Pushes result out.old.items out.new.items (element_children (found acc.now steps value) kind d) }
 {
     if let Some(cid) = element.link() {
         return push_link(&cid, kind, out);

@@ -1,7 +1,7 @@
 //! What a block tells of its children.
 ghost use Rattle.std.specs.Prelude.{◌≡◌, ◌<◌, IfOk, IfSome, length, map};
 ghost use Rattle.ild_beneath.specs.Children.{children_in, children_of};
-ghost use Rattle.ild_cbor.specs.Nodes.{Stands};
+ghost use Rattle.ild_cbor.specs.Nodes.{HasData};
 ghost use Rattle.ild_data.specs.Data.{Data};
 ghost use Rattle.ild_dirty.specs.Beneath.{child_seen};
 ghost use Rattle.ild_schema.specs.Kinds.{meant};
@@ -44,7 +44,7 @@ fn push_root<'b>(
     out: &mut Vec<Child>,
 ) -> Result<(), AllocError>
     requires { ty.0 < length acc.now }
-    ensures { (d : Data) → Stands node.now d → Pushes result out.old.items out.new.items (children_in acc.now ty kind d) }
+    ensures { (d : Data) → HasData node.now d → Pushes result out.old.items out.new.items (children_in acc.now ty kind d) }
 {
     if kind == 0 {
         let slot = Slot {

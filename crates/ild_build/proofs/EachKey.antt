@@ -19,7 +19,7 @@ use Rattle.ild_schema.specs.Value.{Value, Pairs, values_list, pairs_list, option
 use Rattle.ild_schema.specs.ValueSeen.{value_of}
 use Rattle.ild_typed.specs.Fits.{Fits}
 use Rattle.ild_typed.specs.Layer as L
-use Rattle.ild_typed.specs.Layers.{Shows}
+use Rattle.ild_typed.specs.Layers.{RepresentsSome}
 use Rattle.ild_typed.specs.OfType.{OfType}
 use Rattle.ild_typed.proofs.FormOf.{any_form}
 use Rattle.ild_typed.proofs.OneLayer.{in_layer}
@@ -59,22 +59,22 @@ one_of P (y ∷ xs) (suc i) x all e = one_of P xs i x all.1 e
 
 pub keys_all : (P Q : Slot → Value → Type 0) (rows : List Row) (d : TypeDef) (v : Value) (key : TypeNo) (key_at : ℕ) (value : Slot) (place : ℕ) (form : MapForm) (ps : Pairs) (i : ℕ)
     → d ≡ D.Map key key_at value place form → v ≡ V.map ps → length (pairs_list ps) ≤ i
-    → AllBefore (λ p. Shows Q rows (plainly key) (T.text p.0) → Shows P rows (plainly key) (T.text p.0)) (pairs_list ps) i → KeysIn Q rows d v → KeysIn P rows d v
+    → AllBefore (λ p. RepresentsSome Q rows (plainly key) (T.text p.0) → RepresentsSome P rows (plainly key) (T.text p.0)) (pairs_list ps) i → KeysIn Q rows d v → KeysIn P rows d v
 keys_all P Q rows d v key key_at value place form ps i is map le before typed =
-    let all = all_before (λ (p : List ℕ × Value). Shows Q rows (plainly key) (T.text p.0) → Shows P rows (plainly key) (T.text p.0)) (pairs_list ps) i le before in
+    let all = all_before (λ (p : List ℕ × Value). RepresentsSome Q rows (plainly key) (T.text p.0) → RepresentsSome P rows (plainly key) (T.text p.0)) (pairs_list ps) i le before in
     let own : KeysIn Q rows (D.Map key key_at value place form) (V.map ps) = subst (λ x. KeysIn Q rows (D.Map key key_at value place form) x) map (subst (λ c. KeysIn Q rows c v) is typed) in
     let made : KeysIn P rows (D.Map key key_at value place form) (V.map ps) = apply (pairs_list ps) all own in
     subst (λ c. KeysIn P rows c v) (sym is) (subst (λ x. KeysIn P rows (D.Map key key_at value place form) x) (sym map) made)
   where
-    apply : (xs : List (List ℕ × Value)) → AllByRecursion (λ p. Shows Q rows (plainly key) (T.text p.0) → Shows P rows (plainly key) (T.text p.0)) xs → AllByRecursion (λ p. Shows Q rows (plainly key) (T.text p.0)) xs
-        → AllByRecursion (λ p. Shows P rows (plainly key) (T.text p.0)) xs
+    apply : (xs : List (List ℕ × Value)) → AllByRecursion (λ p. RepresentsSome Q rows (plainly key) (T.text p.0) → RepresentsSome P rows (plainly key) (T.text p.0)) xs → AllByRecursion (λ p. RepresentsSome Q rows (plainly key) (T.text p.0)) xs
+        → AllByRecursion (λ p. RepresentsSome P rows (plainly key) (T.text p.0)) xs
     apply [] f h = tt
     apply (x ∷ xs) f h = (f.0 h.0, apply xs f.1 h.1)
 
 pub a_key : (P : Slot → Value → Type 0) (rows : List Row) (d : TypeDef) (v : Value) (key : TypeNo) (key_at : ℕ) (value : Slot) (place : ℕ) (form : MapForm) (ps : Pairs) (i : ℕ) (p : List ℕ × Value)
-    → d ≡ D.Map key key_at value place form → v ≡ V.map ps → slice_get (pairs_list ps) i ≡ Some p → KeysIn P rows d v → Shows P rows (plainly key) (T.text p.0)
+    → d ≡ D.Map key key_at value place form → v ≡ V.map ps → slice_get (pairs_list ps) i ≡ Some p → KeysIn P rows d v → RepresentsSome P rows (plainly key) (T.text p.0)
 a_key P rows d v key key_at value place form ps i p is map at h =
-    one_of (λ (q : List ℕ × Value). Shows P rows (plainly key) (T.text q.0)) (pairs_list ps) i p (subst (λ x. KeysIn P rows (D.Map key key_at value place form) x) map (subst (λ c. KeysIn P rows c v) is h)) at
+    one_of (λ (q : List ℕ × Value). RepresentsSome P rows (plainly key) (T.text q.0)) (pairs_list ps) i p (subst (λ x. KeysIn P rows (D.Map key key_at value place form) x) map (subst (λ c. KeysIn P rows c v) is h)) at
 
 -- ---- values of Any, and values of the program
 

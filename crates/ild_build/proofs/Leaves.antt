@@ -20,7 +20,7 @@ use Rattle.ild_typed.specs.OfType.{OfType}
 use Rattle.ild_typed.specs.Slots.{element_of, fields_of, member_of}
 use Rattle.ild_typed.proofs.OneLayer.{in_layer, null_in}
 use Rattle.ild_build.specs.inside.Leaf.{IsLeaf, HasLeaves, is_bare}
-use Rattle.ild_build.specs.PartAt.{field_at, member_at, part_at, places}
+use Rattle.ild_build.specs.PartAt.{field_at, member_at, value_part_at, places}
 use Rattle.ild_build.proofs.PartTests.{at_of, by_parts}
 use Rattle.ild_build.proofs.RoomParts.{null_room, to_leaf}
 
@@ -58,7 +58,7 @@ module _ (rows : List Row) (s : Slot) (d : TypeDef) (form : form_of rows s ≡ S
   own : IsBare rows d
   own = bare rows d is
 
-  no_part : (v : Value) (i : ℕ) (u : Slot) (w : Value) → part_at (Some d) v i ≡ Some (u, w) → ⊥
+  no_part : (v : Value) (i : ℕ) (u : Slot) (w : Value) → value_part_at (Some d) v i ≡ Some (u, w) → ⊥
   no_part (V.list vs) i u w e = none-some u (sym own.element ∙ (at_of (element_of (Some d)) (slice_get (values_list vs) i) u w e).slot)
   no_part (V.map ps) i u w e = none-some u (sym own.element ∙ (at_of (element_of (Some d)) (option_map (λ (p : List ℕ × Value). p.1) (slice_get (pairs_list ps) i)) u w e).slot)
   no_part (V.struct os) i u w e = none-some u (sym (no_field d own.fields i) ∙ (at_of (option_map (λ (f : Field). f.slot) (slice_get (fields_of (Some d)) i)) (field_at (optionals_list os) i) u w e).slot)
@@ -99,7 +99,7 @@ only_elements d u e = absurd (none-some u e)
 pub leaves_of : (rows : List Row) (d : TypeDef) (u : Slot) → element_of (Some d) ≡ Some u → ((w : Value) → IsLeaf rows u w) → HasLeaves rows d
 leaves_of rows d u is leaf = record { each = λ v i s w e. subst (λ t. IsLeaf rows t w) (slot_is v i s w e) (leaf w) }
   where
-    slot_is : (v : Value) (i : ℕ) (s : Slot) (w : Value) → part_at (Some d) v i ≡ Some (s, w) → u ≡ s
+    slot_is : (v : Value) (i : ℕ) (s : Slot) (w : Value) → value_part_at (Some d) v i ≡ Some (s, w) → u ≡ s
     slot_is (V.list vs) i s w e = same_Some u s (sym is ∙ (at_of (element_of (Some d)) (slice_get (values_list vs) i) s w e).slot)
     slot_is (V.map ps) i s w e = same_Some u s (sym is ∙ (at_of (element_of (Some d)) (option_map (λ (p : List ℕ × Value). p.1) (slice_get (pairs_list ps) i)) s w e).slot)
     slot_is (V.struct os) i s w e =

@@ -22,7 +22,7 @@ use Rattle.ild_schema.specs.declared.row.Row.{Row}
 use Rattle.ild_schema.specs.Copies.{base}
 use Rattle.ild_schema.specs.DataKinds.{same_kind, has_kind, kind_in, is_marked, map_kind, struct_kind, union_has}
 use Rattle.ild_schema.specs.Made.{HasOnly, IsTextSlot, MadeStruct, MadeMap, MadeMember, MadeType, IsMade}
-use Rattle.ild_schema.specs.Marks.{kind_of as mark_kind}
+use Rattle.ild_schema.specs.Marks.{mark_kind}
 use Rattle.ild_schema.specs.Slots.{form_of, plainly}
 use Rattle.ild_schema.specs.Whole.{is_whole, are_whole, pairs_whole, fields_whole}
 use Rattle.ild_schema.specs.Value as V
@@ -46,7 +46,7 @@ use Rattle.ild_typed.proofs.OfKinds.{any_at}
 use Rattle.ild_typed.proofs.Making.{text_slot}
 use Rattle.ild_typed.proofs.MakingValues.{typed_tree}
 use Rattle.ild_typed.proofs.Flat.{flat_text, flat_alone, flat_whole}
-use Rattle.ild_build.specs.PartAt.{field_at, member_at, part_at}
+use Rattle.ild_build.specs.PartAt.{field_at, member_at, value_part_at}
 use Rattle.ild_build.specs.TextRep.{text_rep, TextAnswer, is_text_map, is_text_struct, is_text_layer}
 use Rattle.ild_build.proofs.PartTests.{at_of, entry_of, field_is, field_slot_of, only_member, part_lower, parts_none, by_part}
 
@@ -67,7 +67,7 @@ module _ (fits : Slot → Value → Type 0) (rows : List Row) where
   field_fits (g ∷ fs) (None ∷ os) (suc i) f w h a b = field_fits fs os i f w h.1 a b
 
   -- a part of a layer that fits
-  pub part_fits : (d : TypeDef) (v : Value) (l : Layer Value) (i : ℕ) (u : Slot) (w : Value) → layer_of v ≡ Some l → LayerFits fits rows d l → part_at (Some d) v i ≡ Some (u, w) → fits u w
+  pub part_fits : (d : TypeDef) (v : Value) (l : Layer Value) (i : ℕ) (u : Slot) (w : Value) → layer_of v ≡ Some l → LayerFits fits rows d l → value_part_at (Some d) v i ≡ Some (u, w) → fits u w
   part_fits d (V.list vs) l i u w is h e =
       let a = at_of (element_of (Some d)) (slice_get (values_list vs) i) u w e in
       let x = list_fits fits rows d (values_list vs) (subst (LayerFits fits rows d) (sym (same_Some (L.list (values_list vs)) l is)) h) in
@@ -92,7 +92,7 @@ module _ (fits : Slot → Value → Type 0) (rows : List Row) where
   part_fits d v l i u w is h e = absurd (none-some {A = Slot × Value} (u, w) e)
 
 -- a value with parts is a layer
-layered_part : (d : Option TypeDef) (v : Value) (i : ℕ) (u : Slot) (w : Value) → part_at d v i ≡ Some (u, w) → (l : Layer Value) × (layer_of v ≡ Some l)
+layered_part : (d : Option TypeDef) (v : Value) (i : ℕ) (u : Slot) (w : Value) → value_part_at d v i ≡ Some (u, w) → (l : Layer Value) × (layer_of v ≡ Some l)
 layered_part d V.null i u w e = absurd (none-some {A = Slot × Value} (u, w) e)
 layered_part d (V.list vs) i u w e = (L.list (values_list vs), refl)
 layered_part d (V.map ps) i u w e = (L.map (pairs_list ps), refl)
@@ -100,7 +100,7 @@ layered_part d (V.struct os) i u w e = (L.struct (optionals_list os), refl)
 layered_part d (V.union n v) i u w e = (L.union n v, refl)
 layered_part d v i u w e = absurd (none-some {A = Slot × Value} (u, w) e)
 
-pub part_typed : (rows : List Row) (s : Slot) (v : Value) (d : TypeDef) → form_of rows s ≡ Some d → OfType rows s v → (i : ℕ) (u : Slot) (w : Value) → part_at (Some d) v i ≡ Some (u, w) → OfType rows u w
+pub part_typed : (rows : List Row) (s : Slot) (v : Value) (d : TypeDef) → form_of rows s ≡ Some d → OfType rows s v → (i : ℕ) (u : Slot) (w : Value) → value_part_at (Some d) v i ≡ Some (u, w) → OfType rows u w
 part_typed rows s v d is typed i u w e =
     let x = layered_part (Some d) v i u w e in
     let y = in_layer rows s v x.0 x.1 typed in
@@ -169,7 +169,7 @@ module _ (rows : List Row) (made : IsMade rows) where
   member_text_at d n u only m e = absurd (none-some u e)
 
   -- the parts of a text are texts
-  pub part_text : (s : Slot) (v : Value) (d : TypeDef) → form_of rows s ≡ Some d → HasOnly rows s K.Text → (i : ℕ) (u : Slot) (w : Value) → part_at (Some d) v i ≡ Some (u, w) → HasOnly rows u K.Text
+  pub part_text : (s : Slot) (v : Value) (d : TypeDef) → form_of rows s ≡ Some d → HasOnly rows s K.Text → (i : ℕ) (u : Slot) (w : Value) → value_part_at (Some d) v i ≡ Some (u, w) → HasOnly rows u K.Text
   part_text s (V.list vs) d is only i u w e =
       element_text d u (only_of s d is only) (made (base rows s.ty.0) d is) (at_of (element_of (Some d)) (slice_get (values_list vs) i) u w e).slot
   part_text s (V.map ps) d is only i u w e =
@@ -193,7 +193,7 @@ module _ (rows : List Row) (made : IsMade rows) where
   here_full h (D.Map key key_at value at form) v only = refl
   here_full h d v only = refl
 
-  no_part : (x : Value) (i : ℕ) (u : Slot) (w : Value) → part_at None x i ≡ Some (u, w) → ⊥
+  no_part : (x : Value) (i : ℕ) (u : Slot) (w : Value) → value_part_at None x i ≡ Some (u, w) → ⊥
   no_part (V.list vs) i u w e = none-some {A = Slot × Value} (u, w) e
   no_part (V.map vs) i u w e = none-some {A = Slot × Value} (u, w) e
   no_part (V.struct vs) i u w e = none-some {A = Slot × Value} (u, w) e
@@ -201,13 +201,13 @@ module _ (rows : List Row) (made : IsMade rows) where
   no_part x i u w e = none-some {A = Slot × Value} (u, w) e
 
   full_by : (h : List ℕ → List ℕ) (s : Slot) (v : Value) → OfType rows s v → HasOnly rows s K.Text
-      → ((i : ℕ) (u : Slot) (w : Value) → part_at (form_of rows s) v i ≡ Some (u, w) → OfType rows u w → HasOnly rows u K.Text → exhausts h rows u w ≡ false)
+      → ((i : ℕ) (u : Slot) (w : Value) → value_part_at (form_of rows s) v i ≡ Some (u, w) → OfType rows u w → HasOnly rows u K.Text → exhausts h rows u w ≡ false)
       → (o : Option TypeDef) → form_of rows s ≡ o → exhausts h rows s v ≡ false
   full_by h s v typed only later None is =
-      parts_none (is_exhausted h rows) rows s v (ap (λ o. is_exhausted h rows o v) is) (λ i u w e. absurd (no_part v i u w (ap (λ o. part_at o v i) (sym is) ∙ e)))
+      parts_none (is_exhausted h rows) rows s v (ap (λ o. is_exhausted h rows o v) is) (λ i u w e. absurd (no_part v i u w (ap (λ o. value_part_at o v i) (sym is) ∙ e)))
   full_by h s v typed only later (Some d) is =
       parts_none (is_exhausted h rows) rows s v (ap (λ o. is_exhausted h rows o v) is ∙ here_full h d v (only_of s d is only))
-      (λ i u w e. let k = ap (λ o. part_at o v i) (sym is) ∙ e in later i u w e (part_typed rows s v d is typed i u w k) (part_text s v d is only i u w k))
+      (λ i u w e. let k = ap (λ o. value_part_at o v i) (sym is) ∙ e in later i u w e (part_typed rows s v d is typed i u w k) (part_text s v d is only i u w k))
 
   texts_full : (h : List ℕ → List ℕ) (n : ℕ) (s : Slot) (v : Value) → height v < n → OfType rows s v → HasOnly rows s K.Text → exhausts h rows s v ≡ false
   texts_full h zero s v less typed only = absurd (omega (arith, less))
@@ -262,7 +262,7 @@ fields_whole_at (V.absent os) (suc i) w h e = fields_whole_at os i w h e
 fields_whole_at (V.present v os) zero w h e = ap is_whole (sym (same_Some v w (same_Some (Some v) (Some w) e))) ∙ (both_true (is_whole v) (fields_whole os) h).0
 fields_whole_at (V.present v os) (suc i) w h e = fields_whole_at os i w (both_true (is_whole v) (fields_whole os) h).1 e
 
-pub part_whole : (d : Option TypeDef) (v : Value) (i : ℕ) (u : Slot) (w : Value) → part_at d v i ≡ Some (u, w) → is_whole v ≡ true → is_whole w ≡ true
+pub part_whole : (d : Option TypeDef) (v : Value) (i : ℕ) (u : Slot) (w : Value) → value_part_at d v i ≡ Some (u, w) → is_whole v ≡ true → is_whole w ≡ true
 part_whole d (V.list vs) i u w e h = are_whole_at vs i w h (at_of (element_of d) (slice_get (values_list vs) i) u w e).value
 part_whole d (V.map ps) i u w e h =
     let a = at_of (element_of d) (option_map (λ (p : List ℕ × Value). p.1) (slice_get (pairs_list ps) i)) u w e in
@@ -274,7 +274,7 @@ part_whole d (V.struct os) i u w e h =
 part_whole d (V.union n v) i u w e h = ap is_whole (sym (only_member v i w (at_of (member_of d n) (member_at v i) u w e).value)) ∙ h
 part_whole d v i u w e h = absurd (none-some {A = Slot × Value} (u, w) e)
 
-pub part_is_typed : (rows : List Row) (s : Slot) (v : Value) (d : TypeDef) → form_of rows s ≡ Some d → Typed rows s v → (i : ℕ) (u : Slot) (w : Value) → part_at (Some d) v i ≡ Some (u, w) → Typed rows u w
+pub part_is_typed : (rows : List Row) (s : Slot) (v : Value) (d : TypeDef) → form_of rows s ≡ Some d → Typed rows s v → (i : ℕ) (u : Slot) (w : Value) → value_part_at (Some d) v i ≡ Some (u, w) → Typed rows u w
 part_is_typed rows s v d is typed i u w e =
     let x = part_typed rows s v d is (typed.0, typed.1) i u w e in
     (x.0, x.1, part_whole (Some d) v i u w e typed.2)
@@ -362,7 +362,7 @@ answer_joined rows made s v layer typed hole old new false a = by (breaks_delimi
         absurd (none-some x.text (sym a ∙ sym layer.text ∙ x.is))
 
 -- a part of a value without a hole has none
-pub part_free : (rows : List Row) (s : Slot) (v : Value) (d : TypeDef) → form_of rows s ≡ Some d → has_hole rows s v ≡ false → (i : ℕ) (u : Slot) (w : Value) → part_at (Some d) v i ≡ Some (u, w) → has_hole rows u w ≡ false
+pub part_free : (rows : List Row) (s : Slot) (v : Value) (d : TypeDef) → form_of rows s ≡ Some d → has_hole rows s v ≡ false → (i : ℕ) (u : Slot) (w : Value) → value_part_at (Some d) v i ≡ Some (u, w) → has_hole rows u w ≡ false
 part_free rows s v d is free i u w e = by (has_hole rows u w) refl
   where
     by : (b : Bool) → has_hole rows u w ≡ b → b ≡ false

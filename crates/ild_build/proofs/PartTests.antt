@@ -13,7 +13,7 @@ use Rattle.ild_schema.specs.Value as V
 use Rattle.ild_schema.specs.Value.{Value, Values, Pairs, Optionals, values_list, pairs_list, optionals_list, height, values_height, pairs_height, optionals_height}
 use Rattle.ild_typed.specs.EachLayer.{some_layer, some_value, some_pair, some_field}
 use Rattle.ild_typed.specs.Slots.{element_of, fields_of, member_of}
-use Rattle.ild_build.specs.PartAt.{in_slot, places, field_at, member_at, part_at}
+use Rattle.ild_build.specs.PartAt.{in_slot, places, field_at, member_at, value_part_at}
 
 -- ---- what stands at a place
 
@@ -61,7 +61,7 @@ first_member v (suc i) w e = absurd (none-some w e)
 
 -- ---- places
 
-pub part_placed : (d : Option TypeDef) (v : Value) (i : ℕ) (u : Slot) (w : Value) → part_at d v i ≡ Some (u, w) → i < places v
+pub part_placed : (d : Option TypeDef) (v : Value) (i : ℕ) (u : Slot) (w : Value) → value_part_at d v i ≡ Some (u, w) → i < places v
 part_placed d (V.list vs) i u w e = slice_get_within (values_list vs) i w (at_of (element_of d) (slice_get (values_list vs) i) u w e).value
 part_placed d (V.map ps) i u w e =
     let x = entry_of (pairs_list ps) i w (slice_get (pairs_list ps) i) refl (at_of (element_of d) (option_map (λ (p : List ℕ × Value). p.1) (slice_get (pairs_list ps) i)) u w e).value in
@@ -92,7 +92,7 @@ field_height (V.present v os) zero w e = subst (λ x. height x ≤ optionals_hei
 field_height (V.present v os) (suc i) w e = omega (arith, field_height os i w e)
 
 -- parts nest less deep
-pub part_lower : (d : Option TypeDef) (v : Value) (i : ℕ) (u : Slot) (w : Value) → part_at d v i ≡ Some (u, w) → height w < height v
+pub part_lower : (d : Option TypeDef) (v : Value) (i : ℕ) (u : Slot) (w : Value) → value_part_at d v i ≡ Some (u, w) → height w < height v
 part_lower d (V.list vs) i u w e = omega (arith, value_height vs i w (at_of (element_of d) (slice_get (values_list vs) i) u w e).value)
 part_lower d (V.map ps) i u w e =
     let x = entry_of (pairs_list ps) i w (slice_get (pairs_list ps) i) refl (at_of (element_of d) (option_map (λ (p : List ℕ × Value). p.1) (slice_get (pairs_list ps) i)) u w e).value in
@@ -150,7 +150,7 @@ module _ (test : Option TypeDef → Value → Bool) (rows : List Row) where
   given_true f o u e h = ap (λ x. option_map_or f x false) e ∙ h
 
   -- what one part has, the value has
-  pub part_found : (s : Slot) (v : Value) (i : ℕ) (u : Slot) (w : Value) → part_at (form_of rows s) v i ≡ Some (u, w) → some_layer test rows u w ≡ true → some_layer test rows s v ≡ true
+  pub part_found : (s : Slot) (v : Value) (i : ℕ) (u : Slot) (w : Value) → value_part_at (form_of rows s) v i ≡ Some (u, w) → some_layer test rows u w ≡ true → some_layer test rows s v ≡ true
   part_found s (V.list vs) i u w e h =
       let d = form_of rows s in
       let a = at_of (element_of d) (slice_get (values_list vs) i) u w e in
@@ -197,7 +197,7 @@ module _ (test : Option TypeDef → Value → Bool) (rows : List Row) where
   given_none f (Some u) all = all u refl
 
   -- what neither the layer nor a part has, the value has not
-  pub parts_none : (s : Slot) (v : Value) → test (form_of rows s) v ≡ false → ((i : ℕ) (u : Slot) (w : Value) → part_at (form_of rows s) v i ≡ Some (u, w) → some_layer test rows u w ≡ false)
+  pub parts_none : (s : Slot) (v : Value) → test (form_of rows s) v ≡ false → ((i : ℕ) (u : Slot) (w : Value) → value_part_at (form_of rows s) v i ≡ Some (u, w) → some_layer test rows u w ≡ false)
       → some_layer test rows s v ≡ false
   parts_none s (V.list vs) here all =
       let d = form_of rows s in
@@ -220,14 +220,14 @@ module _ (test : Option TypeDef → Value → Bool) (rows : List Row) where
   parts_none s v here all = refl
 
   -- the same, where the form is known
-  pub by_part : (s : Slot) (v : Value) (d : TypeDef) → form_of rows s ≡ Some d → (i : ℕ) (u : Slot) (w : Value) → part_at (Some d) v i ≡ Some (u, w) → some_layer test rows u w ≡ true
+  pub by_part : (s : Slot) (v : Value) (d : TypeDef) → form_of rows s ≡ Some d → (i : ℕ) (u : Slot) (w : Value) → value_part_at (Some d) v i ≡ Some (u, w) → some_layer test rows u w ≡ true
       → some_layer test rows s v ≡ true
-  by_part s v d is i u w e h = part_found s v i u w (ap (λ o. part_at o v i) is ∙ e) h
+  by_part s v d is i u w e h = part_found s v i u w (ap (λ o. value_part_at o v i) is ∙ e) h
 
   pub by_parts : (s : Slot) (v : Value) (d : TypeDef) → form_of rows s ≡ Some d → test (Some d) v ≡ false → (n : ℕ) → places v ≤ n
-      → ((i : ℕ) (u : Slot) (w : Value) → i < n → part_at (Some d) v i ≡ Some (u, w) → some_layer test rows u w ≡ false) → some_layer test rows s v ≡ false
+      → ((i : ℕ) (u : Slot) (w : Value) → i < n → value_part_at (Some d) v i ≡ Some (u, w) → some_layer test rows u w ≡ false) → some_layer test rows s v ≡ false
   by_parts s v d is here n le all =
-      parts_none s v (ap (λ o. test o v) is ∙ here) (λ i u w e. let h = ap (λ o. part_at o v i) (sym is) ∙ e in all i u w (below (part_placed (Some d) v i u w h) le) h)
+      parts_none s v (ap (λ o. test o v) is ∙ here) (λ i u w e. let h = ap (λ o. value_part_at o v i) (sym is) ∙ e in all i u w (below (part_placed (Some d) v i u w h) le) h)
     where
       below : {i p m : ℕ} → i < p → p ≤ m → i < m
       below a b = omega arith
@@ -250,20 +250,20 @@ below_next j i h = by (nat_lt j i) refl
     by false e = inr (grind (arith, nat_tests, e, h))
 
 abbrev pub PartsBefore : (Slot → Value → Type 0) → TypeDef → Value → ℕ → Type 0
-PartsBefore Q d v i = (j : ℕ) (u : Slot) (w : Value) → j < i → part_at (Some d) v j ≡ Some (u, w) → Q u w
+PartsBefore Q d v i = (j : ℕ) (u : Slot) (w : Value) → j < i → value_part_at (Some d) v j ≡ Some (u, w) → Q u w
 
-pub parts_next : (Q : Slot → Value → Type 0) (d : TypeDef) (v : Value) (i : ℕ) (u : Slot) (w : Value) → part_at (Some d) v i ≡ Some (u, w) → Q u w → PartsBefore Q d v i → PartsBefore Q d v (i + 1)
+pub parts_next : (Q : Slot → Value → Type 0) (d : TypeDef) (v : Value) (i : ℕ) (u : Slot) (w : Value) → value_part_at (Some d) v i ≡ Some (u, w) → Q u w → PartsBefore Q d v i → PartsBefore Q d v (i + 1)
 parts_next Q d v i u w here q before j x y h e = by (below_next j i h)
   where
     by : (j < i) ⊎ (j ≡ i) → Q x y
     by (inl less) = before j x y less e
     by (inr same) =
-        let both : (u, w) ≡ (x, y) = same_Some {A = Slot × Value} (u, w) (x, y) (sym here ∙ ap (part_at (Some d) v) (sym same) ∙ e) in
+        let both : (u, w) ≡ (x, y) = same_Some {A = Slot × Value} (u, w) (x, y) (sym here ∙ ap (value_part_at (Some d) v) (sym same) ∙ e) in
         subst (λ (p : Slot × Value). Q p.0 p.1) both q
 
-pub parts_absent : (Q : Slot → Value → Type 0) (d : TypeDef) (v : Value) (i : ℕ) → part_at (Some d) v i ≡ None → PartsBefore Q d v i → PartsBefore Q d v (i + 1)
+pub parts_absent : (Q : Slot → Value → Type 0) (d : TypeDef) (v : Value) (i : ℕ) → value_part_at (Some d) v i ≡ None → PartsBefore Q d v i → PartsBefore Q d v (i + 1)
 parts_absent Q d v i here before j x y h e = by (below_next j i h)
   where
     by : (j < i) ⊎ (j ≡ i) → Q x y
     by (inl less) = before j x y less e
-    by (inr same) = absurd (none-some {A = Slot × Value} (x, y) (sym here ∙ ap (part_at (Some d) v) (sym same) ∙ e))
+    by (inr same) = absurd (none-some {A = Slot × Value} (x, y) (sym here ∙ ap (value_part_at (Some d) v) (sym same) ∙ e))

@@ -21,7 +21,7 @@ use Rattle.ild_schema.specs.Value.{Value, values_list, pairs_list, optionals_lis
 use Rattle.ild_typed.specs.Layer as L
 use Rattle.ild_typed.specs.Layer.{Layer}
 use Rattle.ild_typed.specs.Levels.{levels_of, map_levels, struct_levels, any_levels}
-use Rattle.ild_typed.specs.Layers.{layer_of, Shows, FieldsFit, LayerFits}
+use Rattle.ild_typed.specs.Layers.{layer_of, RepresentsSome, FieldsFit, LayerFits}
 use Rattle.ild_typed.specs.Fits.{FormFits, ValueFits, FitsPast, Fits}
 use Rattle.ild_typed.specs.OfType.{OfType}
 use Rattle.ild_typed.specs.Slots.{element_of, fields_of, member_of, slot_of}
@@ -29,7 +29,7 @@ use Rattle.ild_typed.proofs.FormOf.{there_entries, entries_there, boolean_form, 
 use Rattle.ild_typed.proofs.OneLayer.{in_layer, from_form, past_over}
 use Rattle.ild_typed.proofs.Rooms.{layer_more, fits_more, past_less}
 use Rattle.ild_build.specs.inside.KeysIn.{KeysIn, IsPlainLayer}
-use Rattle.ild_build.specs.PartAt.{field_at, places, part_at}
+use Rattle.ild_build.specs.PartAt.{field_at, places, value_part_at}
 use Rattle.ild_build.proofs.PartTests.{placed, part_placed, PartsBefore}
 use Rattle.ild_build.proofs.PartFits.{part_fits}
 
@@ -146,19 +146,19 @@ module _ (rows : List Row) (P : Slot → Value → Type 0) where
   fields_by (f ∷ fs) (Some v ∷ os) h all = (all 0 f v refl refl, fields_by fs os h.1 (λ i g w a b. all (suc i) g w a b))
   fields_by (f ∷ fs) (None ∷ os) h all = (h.0, fields_by fs os h.1 (λ i g w a b. all (suc i) g w a b))
 
-  entries_by : (key : TypeNo) (value : Slot) (ps : List (List ℕ × Value)) → AllByRecursion (λ p. IsUtf8 p.0 × Shows (OfType rows) rows (plainly key) (T.text p.0) × OfType rows value p.1) ps
-      → AllByRecursion (λ p. Shows P rows (plainly key) (T.text p.0)) ps → ((i : ℕ) (p : List ℕ × Value) → slice_get ps i ≡ Some p → P value p.1)
-      → AllByRecursion (λ p. IsUtf8 p.0 × Shows P rows (plainly key) (T.text p.0) × P value p.1) ps
+  entries_by : (key : TypeNo) (value : Slot) (ps : List (List ℕ × Value)) → AllByRecursion (λ p. IsUtf8 p.0 × RepresentsSome (OfType rows) rows (plainly key) (T.text p.0) × OfType rows value p.1) ps
+      → AllByRecursion (λ p. RepresentsSome P rows (plainly key) (T.text p.0)) ps → ((i : ℕ) (p : List ℕ × Value) → slice_get ps i ≡ Some p → P value p.1)
+      → AllByRecursion (λ p. IsUtf8 p.0 × RepresentsSome P rows (plainly key) (T.text p.0) × P value p.1) ps
   entries_by key value [] h k all = tt
   entries_by key value (p ∷ ps) h k all = ((h.0.0, k.0, all 0 p refl), entries_by key value ps h.1 k.1 (λ i q e. all (suc i) q e))
 
-  keys_from : (key : TypeNo) (value : Slot) (ps : List (List ℕ × Value)) → AllByRecursion (λ p. IsUtf8 p.0 × Shows P rows (plainly key) (T.text p.0) × P value p.1) ps → AllByRecursion (λ p. Shows P rows (plainly key) (T.text p.0)) ps
+  keys_from : (key : TypeNo) (value : Slot) (ps : List (List ℕ × Value)) → AllByRecursion (λ p. IsUtf8 p.0 × RepresentsSome P rows (plainly key) (T.text p.0) × P value p.1) ps → AllByRecursion (λ p. RepresentsSome P rows (plainly key) (T.text p.0)) ps
   keys_from key value [] h = tt
   keys_from key value (p ∷ ps) h = (h.0.1, keys_from key value ps h.1)
 
   -- a layer whose parts and keys fit
   pub layer_by : (d : TypeDef) (v : Value) (l : Layer Value) → layer_of v ≡ Some l → ((x : Data) → v ≡ V.hamt x → ⊥) → LayerFits (OfType rows) rows d l
-      → ((i : ℕ) (u : Slot) (w : Value) → part_at (Some d) v i ≡ Some (u, w) → P u w) → KeysIn P rows d v → LayerFits P rows d l
+      → ((i : ℕ) (u : Slot) (w : Value) → value_part_at (Some d) v i ≡ Some (u, w) → P u w) → KeysIn P rows d v → LayerFits P rows d l
   layer_by d V.null l is hamt h all keys = absurd (none-some l is)
   layer_by d (V.list vs) l is hamt h all keys =
       let same = same_Some (L.list (values_list vs)) l is in
@@ -261,7 +261,7 @@ module _ (rows : List Row) (room left n : ℕ) (s : Slot) (v : Value) (d : TypeD
   inside : left ≡ room - n → Fits rows room s v → LayerFits (λ t w. Fits rows left t w) rows d plain.layer
   inside l h = let x = in_room rows room s v plain.layer d plain.is form h in subst (λ k. LayerFits (λ t w. Fits rows k t w) rows d plain.layer) (ap (λ k. room - k) (sym own) ∙ sym l) x.1
 
-  pub a_part : left ≡ room - n → Fits rows room s v → (i : ℕ) (u : Slot) (w : Value) → part_at (Some d) v i ≡ Some (u, w) → Fits rows left u w
+  pub a_part : left ≡ room - n → Fits rows room s v → (i : ℕ) (u : Slot) (w : Value) → value_part_at (Some d) v i ≡ Some (u, w) → Fits rows left u w
   a_part l h i u w e = part_fits (λ t x. Fits rows left t x) rows d v plain.layer i u w plain.is (inside l h) e
 
   pub its_keys : left ≡ room - n → Fits rows room s v → KeysIn (λ t w. Fits rows left t w) rows d v

@@ -33,7 +33,7 @@ use Rattle.ild_schema.specs.declared.row.Row.{Row}
 use Rattle.ild_schema.specs.DataKinds.{same_kind, has_kind}
 use Rattle.ild_schema.specs.Fitting.{ImplicitFits}
 use Rattle.ild_schema.specs.Hex.{bytes_of_hex}
-use Rattle.ild_schema.specs.Marks.{field_text, text_of, kind_of as mark_kind}
+use Rattle.ild_schema.specs.Marks.{field_text, mark_text, mark_kind}
 use Rattle.ild_schema.specs.Rules.{is_of}
 use Rattle.ild_schema.specs.Slots.{form_of, plainly}
 use Rattle.ild_schema.specs.Value as V
@@ -41,7 +41,7 @@ use Rattle.ild_schema.specs.Value.{Value, Pairs, Optionals, pairs_list, optional
 use Rattle.ild_typed.specs.Composed.{Hamts, composed, map_form, struct_form, member_form, marked_form, inlined}
 use Rattle.ild_typed.specs.Fields.{is_scalar, is_implicit, entries_of, field_entries, all_items}
 use Rattle.ild_typed.specs.Hamt.{alone, a_map}
-use Rattle.ild_typed.specs.Kinds.{kind_of}
+use Rattle.ild_typed.specs.Kinds.{kind_word_of}
 use Rattle.ild_typed.specs.Layer as L
 use Rattle.ild_typed.specs.Layer.{Layer, as_boolean, as_integer, as_text, as_map, as_hamt}
 use Rattle.ild_typed.specs.Represented.{represented, represented_pairs, represented_fields, layered}
@@ -323,14 +323,14 @@ module _ (rows : List Row) where
 
   -- ---- unions
 
-  by_kind : (m : Member) (d : Data) (o : Option KindWord) → option_and_then text_in (option_and_then (λ k. cond (same_kind k (kind_of d)) (Some d) None) o) ≡ option_and_then (λ k. cond (same_kind k K.Text) (text_in d) None) o
+  by_kind : (m : Member) (d : Data) (o : Option KindWord) → option_and_then text_in (option_and_then (λ k. cond (same_kind k (kind_word_of d)) (Some d) None) o) ≡ option_and_then (λ k. cond (same_kind k K.Text) (text_in d) None) o
   by_kind m d None = refl
   by_kind m (T.text t) (Some k) = choose (same_kind k K.Text)
     where
       choose : (b : Bool) → option_and_then text_in (cond b (Some (T.text t)) None) ≡ cond b (Some t) None
       choose true = refl
       choose false = refl
-  by_kind m d (Some k) = never (same_kind k (kind_of d)) (same_kind k K.Text)
+  by_kind m d (Some k) = never (same_kind k (kind_word_of d)) (same_kind k K.Text)
     where
       never : (b c : Bool) → option_and_then text_in (cond b (Some d) None) ≡ cond c (text_in d) None
       never true true = refl
@@ -344,22 +344,22 @@ module _ (rows : List Row) where
 
   form_text : (form : UnionForm) (m : Member) (d : Data) → option_and_then text_in (member_form form d m) ≡ by_form form m (text_in d)
   form_text UF.Kinded m d = by_kind m d (mark_kind m.mark)
-  form_text UF.StringPrefix m d = by (text_of m.mark) (text_in d)
+  form_text UF.StringPrefix m d = by (mark_text m.mark) (text_in d)
     where
       by : (o t : Option (List ℕ))
           → option_and_then text_in (option_and_then (λ name. option_map (λ x. T.text (name ++ x)) t) o) ≡ option_and_then (λ prefix. option_map (λ x. prefix ++ x) t) o
       by None t = refl
       by (Some p) None = refl
       by (Some p) (Some x) = refl
-  form_text UF.Keyed m d = no_marked (marked_form UF.Keyed d) (text_of m.mark) (λ p. refl)
-  form_text UF.BytesPrefix m d = no_marked (marked_form UF.BytesPrefix d) (text_of m.mark) (λ p. by p (bytes_of_hex p) (bytes_in d))
+  form_text UF.Keyed m d = no_marked (marked_form UF.Keyed d) (mark_text m.mark) (λ p. refl)
+  form_text UF.BytesPrefix m d = no_marked (marked_form UF.BytesPrefix d) (mark_text m.mark) (λ p. by p (bytes_of_hex p) (bytes_in d))
     where
       by : (p : List ℕ) (o b : Option (List ℕ)) → option_and_then text_in (option_and_then (λ front. option_map (λ x. T.bytes (front ++ x)) b) o) ≡ None
       by p None b = refl
       by p (Some front) None = refl
       by p (Some front) (Some x) = refl
-  form_text (UF.Envelope key content) m d = no_marked (marked_form (UF.Envelope key content) d) (text_of m.mark) (λ p. refl)
-  form_text (UF.Inline key) m d = no_marked (marked_form (UF.Inline key) d) (text_of m.mark) (λ p. by p (members_in d))
+  form_text (UF.Envelope key content) m d = no_marked (marked_form (UF.Envelope key content) d) (mark_text m.mark) (λ p. refl)
+  form_text (UF.Inline key) m d = no_marked (marked_form (UF.Inline key) d) (mark_text m.mark) (λ p. by p (members_in d))
     where
       by : (p : List ℕ) (o : Option (List (List ℕ × Data))) → option_and_then text_in (option_and_then (inlined key p) o) ≡ None
       by p None = refl
@@ -382,7 +382,7 @@ module _ (rows : List Row) where
           choose : (b : Bool) → no_text ≡ cond b no_text None
           choose true = refl
           choose false = refl
-  none_by_form UF.StringPrefix m = by (text_of m.mark)
+  none_by_form UF.StringPrefix m = by (mark_text m.mark)
     where
       by : (o : Option (List ℕ)) → no_text ≡ option_and_then (λ prefix. option_map (λ t. prefix ++ t) no_text) o
       by None = refl
@@ -412,7 +412,7 @@ module _ (rows : List Row) where
 
   -- ---- types that have no texts
 
-  no_text_of : (d : TypeDef) → has_kind d K.Text ≡ false → (t : Data) → has_kind d (kind_of t) ≡ true → text_in t ≡ None
+  no_text_of : (d : TypeDef) → has_kind d K.Text ≡ false → (t : Data) → has_kind d (kind_word_of t) ≡ true → text_in t ≡ None
   no_text_of d no_kind (T.text x) e = absurd (false_true (sym no_kind ∙ e))
   no_text_of d no_kind t e = refl
 
@@ -421,7 +421,7 @@ module _ (rows : List Row) where
     where
       way : (t : Data) → Way alone rows s v t → text_in t ≡ None
       way t (as_null v_null nullable is_null) = ap text_in is_null
-      way t (as_layer c l known there made) = no_text_of d no_kind t (ap (λ k. has_kind k (kind_of t)) (same_Some d c (sym is ∙ known)) ∙ composed_kind alone alone_kind c l t made)
+      way t (as_layer c l known there made) = no_text_of d no_kind t (ap (λ k. has_kind k (kind_word_of t)) (same_Some d c (sym is ∙ known)) ∙ composed_kind alone alone_kind c l t made)
 
       by : (o : Option Data) → represented alone rows s v ≡ o → option_and_then text_in o ≡ None
       by None e = refl

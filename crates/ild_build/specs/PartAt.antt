@@ -28,9 +28,9 @@ member_at v zero = Some v
 member_at v (suc i) = None
 
 -- the part at a place; a field that is left out is none
-abbrev pub part_at : Option TypeDef → Value → ℕ → Option (Slot × Value)
-part_at d (V.list vs) i = in_slot (element_of d) (slice_get (values_list vs) i)
-part_at d (V.map ps) i = in_slot (element_of d) (option_map (λ p. p.1) (slice_get (pairs_list ps) i))
-part_at d (V.struct os) i = in_slot (option_map (λ f. f.slot) (slice_get (fields_of d) i)) (field_at (optionals_list os) i)
-part_at d (V.union n v) i = in_slot (member_of d n) (member_at v i)
-part_at d v i = None
+abbrev pub value_part_at : Option TypeDef → Value → ℕ → Option (Slot × Value)
+value_part_at d (V.list vs) i = in_slot (element_of d) (slice_get (values_list vs) i)
+value_part_at d (V.map ps) i = in_slot (element_of d) (option_map (λ p. p.1) (slice_get (pairs_list ps) i))
+value_part_at d (V.struct os) i = in_slot (option_map (λ f. f.slot) (slice_get (fields_of d) i)) (field_at (optionals_list os) i)
+value_part_at d (V.union n v) i = in_slot (member_of d n) (member_at v i)
+value_part_at d v i = None

@@ -4,7 +4,7 @@ ghost use Rattle.ild_schema.specs.declared.number.Slot.{Slot};
 ghost use Rattle.ild_schema.specs.Value.{Value, pairs_list, optionals_list};
 ghost use Rattle.ild_schema.specs.Table.{IsWithin};
 ghost use Rattle.ild_schema.specs.ValueSeen.{value_of};
-ghost use Rattle.ild_build.specs.PartAt.{field_at, in_slot, part_at, places};
+ghost use Rattle.ild_build.specs.PartAt.{field_at, in_slot, value_part_at, places};
 ghost use Rattle.ild_typed.specs.Slots.{element_of, member_of, fields_of};
 
 use ild_schema::{Field, Slot, TypeDef, Val, ValFields, ValPairs};
@@ -108,7 +108,7 @@ fn in_slot(slot: Option<Slot>, val: Option<&Val>) -> Option<(Slot, &Val)>
 
 /// The part at a place, with the slot that the type gives to it; a field that is left out is none.
 pub(crate) fn part_at<'v>(def: &TypeDef, val: &'v Val, i: usize) -> Option<(Slot, &'v Val)>
-    ensures same { option_map {U = Slot × Value} (λ p. (p.0, value_of p.1.now)) result ≡ part_at (Some def.now) (value_of val.now) i }
+    ensures same { option_map {U = Slot × Value} (λ p. (p.0, value_of p.1.now)) result ≡ value_part_at (Some def.now) (value_of val.now) i }
     ensures within { (n : ℕ) → IsWithin n def.now → IfSome result (λ p. p.0.ty.0 < n) }
 {
     match val {

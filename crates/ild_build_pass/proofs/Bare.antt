@@ -34,7 +34,7 @@ use Rattle.ild_typed.specs.OfType.{OfType}
 use Rattle.ild_typed.specs.Represented.{represented, layered}
 use Rattle.ild_typed.specs.Slots.{element_of, fields_of, member_of}
 use Rattle.ild_typed.proofs.OneLayer.{in_layer, of_layer}
-use Rattle.ild_build.specs.PartAt.{part_at}
+use Rattle.ild_build.specs.PartAt.{value_part_at}
 use Rattle.ild_build.specs.TextRep.{is_text_layer}
 use Rattle.ild_build.proofs.PartFits.{part_text, part_typed, only_of, text_layer}
 use Rattle.ild_build.proofs.PartTests.{part_lower, parts_none}
@@ -234,7 +234,7 @@ module _ (rows : List Row) (made_is : IsMade rows) where
   here_text (D.Map key key_at value at (MF.Hamt p)) v only = refl
   here_text d v only = refl
 
-  no_part : (x : Value) (i : ℕ) (u : Slot) (w : Value) → part_at None x i ≡ Some (u, w) → ⊥
+  no_part : (x : Value) (i : ℕ) (u : Slot) (w : Value) → value_part_at None x i ≡ Some (u, w) → ⊥
   no_part (V.list vs) i u w e = none-some {A = Slot × Value} (u, w) e
   no_part (V.map vs) i u w e = none-some {A = Slot × Value} (u, w) e
   no_part (V.struct vs) i u w e = none-some {A = Slot × Value} (u, w) e
@@ -242,13 +242,13 @@ module _ (rows : List Row) (made_is : IsMade rows) where
   no_part x i u w e = none-some {A = Slot × Value} (u, w) e
 
   bare_by : (s : Slot) (v : Value) → OfType rows s v → HasOnly rows s K.Text
-      → ((i : ℕ) (u : Slot) (w : Value) → part_at (form_of rows s) v i ≡ Some (u, w) → OfType rows u w → HasOnly rows u K.Text → some_layer is_hamt rows u w ≡ false)
+      → ((i : ℕ) (u : Slot) (w : Value) → value_part_at (form_of rows s) v i ≡ Some (u, w) → OfType rows u w → HasOnly rows u K.Text → some_layer is_hamt rows u w ≡ false)
       → (o : Option TypeDef) → form_of rows s ≡ o → some_layer is_hamt rows s v ≡ false
   bare_by s v typed only later None is =
-      parts_none is_hamt rows s v (ap (λ o. is_hamt o v) is) (λ i u w e. absurd (no_part v i u w (ap (λ o. part_at o v i) (sym is) ∙ e)))
+      parts_none is_hamt rows s v (ap (λ o. is_hamt o v) is) (λ i u w e. absurd (no_part v i u w (ap (λ o. value_part_at o v i) (sym is) ∙ e)))
   bare_by s v typed only later (Some d) is =
       parts_none is_hamt rows s v (ap (λ o. is_hamt o v) is ∙ here_text d v (only_of rows made_is s d is only))
-      (λ i u w e. let k = ap (λ o. part_at o v i) (sym is) ∙ e in later i u w e (part_typed rows s v d is typed i u w k) (part_text rows made_is s v d is only i u w k))
+      (λ i u w e. let k = ap (λ o. value_part_at o v i) (sym is) ∙ e in later i u w e (part_typed rows s v d is typed i u w k) (part_text rows made_is s v d is only i u w k))
 
   texts_bare : (n : ℕ) (s : Slot) (v : Value) → height v < n → OfType rows s v → HasOnly rows s K.Text → some_layer is_hamt rows s v ≡ false
   texts_bare zero s v less typed only = absurd (omega (arith, less))

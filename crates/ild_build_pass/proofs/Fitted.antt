@@ -22,10 +22,10 @@ use Rattle.ild_schema.specs.Value.{Value, Values, Pairs, Optionals, values_list,
 use Rattle.ild_typed.specs.Fits.{Fits}
 use Rattle.ild_typed.specs.Layer as L
 use Rattle.ild_typed.specs.Layer.{Layer}
-use Rattle.ild_typed.specs.Layers.{AreKeys, LayerFits, Shows, layer_of}
+use Rattle.ild_typed.specs.Layers.{AreKeys, LayerFits, RepresentsSome, layer_of}
 use Rattle.ild_typed.specs.Levels.{levels_of}
 use Rattle.ild_typed.proofs.FormOf.{list_form, map_form, struct_form, union_form}
-use Rattle.ild_build.specs.PartAt.{field_at, in_slot, part_at}
+use Rattle.ild_build.specs.PartAt.{field_at, in_slot, value_part_at}
 use Rattle.ild_typed.specs.Slots.{element_of, fields_of, member_at, slot_of}
 use Rattle.ild_typed.specs.Judged.{breaks, breaks_delimiter}
 use Rattle.ild_build.proofs.PartFits.{part_fits, part_free, part_whole}
@@ -51,7 +51,7 @@ module _ (rows : List Row) where
     fit : FitsIn rows u w
     low : fit.room + levels_of d v ≤ deepest
 
-  unbroken : (s : Slot) (v : Value) (d : TypeDef) → form_of rows s ≡ Some d → breaks_delimiter rows s v ≡ false → (i : ℕ) (u : Slot) (w : Value) → part_at (Some d) v i ≡ Some (u, w) → breaks_delimiter rows u w ≡ false
+  unbroken : (s : Slot) (v : Value) (d : TypeDef) → form_of rows s ≡ Some d → breaks_delimiter rows s v ≡ false → (i : ℕ) (u : Slot) (w : Value) → value_part_at (Some d) v i ≡ Some (u, w) → breaks_delimiter rows u w ≡ false
   unbroken s v d is free i u w e = by (breaks_delimiter rows u w) refl
     where
       false_true : false ≡ true → ⊥
@@ -61,7 +61,7 @@ module _ (rows : List Row) where
       by false h = refl
       by true h = absurd (false_true (sym free ∙ by_part (breaks rows) rows s v d is i u w e h))
 
-  part_fit : (s : Slot) (v : Value) (l : Layer Value) (d : TypeDef) → layer_of v ≡ Some l → form_of rows s ≡ Some d → FitsIn rows s v → (i : ℕ) (u : Slot) (w : Value) → part_at (Some d) v i ≡ Some (u, w) → PartFit d v u w
+  part_fit : (s : Slot) (v : Value) (l : Layer Value) (d : TypeDef) → layer_of v ≡ Some l → form_of rows s ≡ Some d → FitsIn rows s v → (i : ℕ) (u : Slot) (w : Value) → value_part_at (Some d) v i ≡ Some (u, w) → PartFit d v u w
   part_fit s v l d e f fit i u w at =
       let x = layer_fit s v l d e f fit in
       let a = x.low in
@@ -98,7 +98,7 @@ module _ (rows : List Row) where
 
   -- ---- maps
 
-  texts_in : (key : TypeNo) (u : Slot) (room : ℕ) (ps : List (List ℕ × Value)) → AllByRecursion (λ p. IsUtf8 p.0 × Shows (Fits rows room) rows (plainly key) (T.text p.0) × Fits rows room u p.1) ps
+  texts_in : (key : TypeNo) (u : Slot) (room : ℕ) (ps : List (List ℕ × Value)) → AllByRecursion (λ p. IsUtf8 p.0 × RepresentsSome (Fits rows room) rows (plainly key) (T.text p.0) × Fits rows room u p.1) ps
       → (i : ℕ) (p : List ℕ × Value) → slice_get ps i ≡ Some p → IsUtf8 p.0
   texts_in key u room [] all i p e = absurd (none-some {A = List ℕ × Value} p e)
   texts_in key u room (q ∷ ps) all zero p e = subst (λ (x : List ℕ × Value). IsUtf8 x.0) (same_Some {A = List ℕ × Value} q p e) all.0.0
@@ -171,7 +171,7 @@ module _ (rows : List Row) where
   union_fit s n v d f fit =
       let x = layer_fit s (V.union n v) (L.union n v) d refl f fit in
       let y = union_form rows (Fits rows x.room) d n v x.holds in
-      let at : part_at (Some (D.Union y.0)) (V.union n v) 0 ≡ Some (plainly y.1.ty, v) = ap (λ o. in_slot (option_map slot_of o) (Some v)) y.3 in
+      let at : value_part_at (Some (D.Union y.0)) (V.union n v) 0 ≡ Some (plainly y.1.ty, v) = ap (λ o. in_slot (option_map slot_of o) (Some v)) y.3 in
       record {
         def = y.0;
         member = y.1;

@@ -7,7 +7,7 @@ use Rattle.ild_emit.specs.Simple.{simple_data}
 use Rattle.ild_schema.specs.Clear.{AreNamesApart}
 use Rattle.ild_schema.specs.Indexed.{InKeyOrder}
 use Rattle.ild_schema.specs.Legible.{IsLegible}
-use Rattle.ild_schema.specs.Marks.{text_of as mark_text}
+use Rattle.ild_schema.specs.Marks.{mark_text}
 use Rattle.ild_schema.specs.Slots.{form_of, plainly}
 use Rattle.ild_schema.specs.Value as V
 use Rattle.ild_schema.specs.Value.{Value, Values, Pairs, Optionals, values_list, pairs_list, optionals_list}

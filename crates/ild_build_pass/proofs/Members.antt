@@ -13,13 +13,13 @@ use Rattle.ild_schema.specs.declared.def.UnionForm.{UnionForm}
 use Rattle.ild_schema.specs.declared.def.UnionForm.TheVariants as UF
 use Rattle.ild_schema.specs.declared.row.Row.{Row}
 use Rattle.ild_schema.specs.DataKinds.{same_kind}
-use Rattle.ild_schema.specs.Marks.{text_of as mark_text, kind_of as mark_kind}
+use Rattle.ild_schema.specs.Marks.{mark_text, mark_kind}
 use Rattle.ild_schema.specs.Slots.{form_of, plainly}
 use Rattle.ild_schema.specs.Value as V
 use Rattle.ild_schema.specs.Value.{Value}
 use Rattle.ild_typed.specs.Composed.{composed, marked_form, member_form}
 use Rattle.ild_typed.specs.Hamt.{whole}
-use Rattle.ild_typed.specs.Kinds.{kind_of}
+use Rattle.ild_typed.specs.Kinds.{kind_word_of}
 use Rattle.ild_typed.specs.Layer as L
 use Rattle.ild_typed.specs.Represented.{represented, layered}
 use Rattle.ild_typed.specs.Slots.{member_of, slot_of}
@@ -45,9 +45,9 @@ kinded_from m (Some d) t e = kind (mark_kind m.mark) e
     test true h = h
     test false h = absurd (none-some t h)
 
-    kind : (k : Option KindWord) → option_map spell (option_and_then (λ w. cond (same_kind w (kind_of d)) (Some d) None) k) ≡ Some t → Some (spell d) ≡ Some t
+    kind : (k : Option KindWord) → option_map spell (option_and_then (λ w. cond (same_kind w (kind_word_of d)) (Some d) None) k) ≡ Some t → Some (spell d) ≡ Some t
     kind None h = absurd (none-some t h)
-    kind (Some w) h = test (same_kind w (kind_of d)) h
+    kind (Some w) h = test (same_kind w (kind_word_of d)) h
 
 form_is : (f : UnionForm) → (f ≡ UF.Kinded → ⊥) → (m : Member) (name : List ℕ) → mark_text m.mark ≡ Some name → (d : Data) → member_form f d m ≡ marked_form f d name
 form_is UF.Kinded other m name is d = absurd (other refl)

@@ -8,7 +8,7 @@ use Rattle.ild_data.specs.declared.hamt_shape.HamtShape.{HamtShape}
 use Rattle.ild_data.specs.Data.{Data, bytes, list, Items, no_items, item, items_of as items_from, items_list}
 use Rattle.ild_data.specs.Trie.{TrieSlot, empty, bucket, child, is_used, map_of, elements_of, entry_data, node_data}
 use Rattle.ild_cbor.specs.Chain.{chain}
-use Rattle.ild_cbor.specs.Nodes.{Stands}
+use Rattle.ild_cbor.specs.Nodes.{HasData}
 use Rattle.ild_cbor.specs.Pairing.{FindsPair}
 use Rattle.ild_cbor.specs.Scalar.{bytes_of}
 use Rattle.ild_cbor.specs.Steps.{HasItems, FindsItems, ItemsGive, items_of}
@@ -213,12 +213,12 @@ elements-end p s t ones i block ds old now o r l le gives is =
 
 -- ---- the parts of a node
 
-pub parts-in : (n : Node) (t : Data) (a b : Node) (m : Bor (List ℕ)) (it : ItemsLeft) → FindsPair n t (Some (a, b)) → ((d : Data) → Stands a d → Some m.now ≡ bytes_of d) → ((d : Data) → Stands b d → FindsItems b (items_of d) (Some it)) → PartsIn n t (m, it)
+pub parts-in : (n : Node) (t : Data) (a b : Node) (m : Bor (List ℕ)) (it : ItemsLeft) → FindsPair n t (Some (a, b)) → ((d : Data) → HasData a d → Some m.now ≡ bytes_of d) → ((d : Data) → HasData b d → FindsItems b (items_of d) (Some it)) → PartsIn n t (m, it)
 parts-in n t a b m it finds keys items =
     let p = parts-of n t a b m.now it (pair-found n t (Some (a, b)) finds) keys items in
     record { parts = p.parts; pair = p.pair; has = p.items.left; here = p.items.block_is ∙ p.elements.block_is }
 
-pub no-parts : (p : HamtShape) (n : Node) (t : Data) (a b : Node) → FindsPair n t (Some (a, b)) → ((d : Data) → Stands b d → FindsItems b (items_of d) None) → node_fits p t ≡ false
+pub no-parts : (p : HamtShape) (n : Node) (t : Data) (a b : Node) → FindsPair n t (Some (a, b)) → ((d : Data) → HasData b d → FindsItems b (items_of d) None) → node_fits p t ≡ false
 no-parts p n t a b finds items = not-listed p n t a b None (λ v. Unit {0}) (pair-found n t (Some (a, b)) finds) items refl
 
 and-false : (b : Bool) → (b && false) ≡ false

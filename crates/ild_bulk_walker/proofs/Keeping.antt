@@ -18,7 +18,7 @@ use Rattle.ild_node_slots.proofs.Shapes.{levels_some}
 use Rattle.ild_bulk_walker.specs.Ahead.{NextIs, walker_todo, walker_path, walker_here, IsTrieFault, IsFaultAt, IsEntered, IsUnchanged, IsTaken}
 use Rattle.ild_bulk_walker.specs.Fetching.{IsRefused, GotSteps}
 use Rattle.ild_bulk_walker.specs.OnTree.{HasNode, IsOnTree, IsWrong, IsWrongNode, SlotsMany, TreeMany}
-use Rattle.ild_bulk_walker.specs.Standing.{way_of, indices_of, last_of, Stands, IsOn, IsBroken, KeepsOn, RowStands}
+use Rattle.ild_bulk_walker.specs.Standing.{way_of, indices_of, last_of, WalkStands, IsOn, IsBroken, KeepsOn, RowStands}
 use Rattle.ild_bulk_walker.specs.Steps.{path_of}
 use Rattle.ild_bulk_walker.specs.Todo.{Todo, give, enter, leave, node_todo, fits}
 use Rattle.ild_bulk_walker.specs.declared.row.Row.{Row}
@@ -88,11 +88,11 @@ indices-long path = length-map (way_of path) (λ (q : List ℕ × ℕ). q.1) ∙
 -- ---- a walker where it stands
 
 is-on : (p : HamtShape) (told : Option (List (List ℕ))) (root : List TrieSlot) (at : List ℕ) (w : Walker) (way : List (List ℕ × ℕ)) (todo : List Todo) (given : ℕ) → w.at.0 ≡ at → length w.path.items < trie_levels p → way_of w.path.items ≡ way → walker_todo w ≡ todo → w.given ≡ given
-    → Stands p told root way todo given → IsOn p told root at w
+    → WalkStands p told root way todo given → IsOn p told root at w
 is-on p told root at w way todo given here short same steps count s = record {
   here = here;
   short = short;
-  stands = subst (λ q. Stands p told root q (walker_todo w) w.given) (sym same) (subst (λ ts. Stands p told root way ts w.given) (sym steps) (subst (λ n. Stands p told root way todo n) (sym count) s));
+  stands = subst (λ q. WalkStands p told root q (walker_todo w) w.given) (sym same) (subst (λ ts. WalkStands p told root way ts w.given) (sym steps) (subst (λ n. WalkStands p told root way todo n) (sym count) s));
 }
 
 unchanged-on : (p : HamtShape) (told : Option (List (List ℕ))) (root : List TrieSlot) (at : List ℕ) (v w : Walker) → IsUnchanged v w → IsOn p told root at v → IsOn p told root at w
@@ -100,8 +100,8 @@ unchanged-on p told root at v w u on =
     is-on p told root at w (way_of v.path.items) (walker_todo v) v.given (u.at ∙ on.here) (subst (λ (path : List Child). length path < trie_levels p) (sym u.children) on.short) (ap way_of u.children) u.todo u.given on.stands
 
 -- the steps that are next, under their names
-stands-at : (p : HamtShape) (told : Option (List (List ℕ))) (root : List TrieSlot) (at : List ℕ) (v : Walker) (todo : List Todo) → walker_todo v ≡ todo → IsOn p told root at v → Stands p told root (way_of v.path.items) todo v.given
-stands-at p told root at v todo is on = subst (λ ts. Stands p told root (way_of v.path.items) ts v.given) is on.stands
+stands-at : (p : HamtShape) (told : Option (List (List ℕ))) (root : List TrieSlot) (at : List ℕ) (v : Walker) (todo : List Todo) → walker_todo v ≡ todo → IsOn p told root at v → WalkStands p told root (way_of v.path.items) todo v.given
+stands-at p told root at v todo is on = subst (λ ts. WalkStands p told root (way_of v.path.items) ts v.given) is on.stands
 
 -- ---- a node at fault
 
@@ -121,7 +121,7 @@ broken p h told root at a b up here F.Memory on wrong trie is = tt
 fault-here : (v : Walker) (at : List ℕ) (e : HamtFault) → v.at.0 ≡ at → IsFaultAt (walker_here v) e → IsFaultAt (last_of at (way_of v.path.items)) e
 fault-here v at e is here = subst (λ (a : List ℕ). IsFaultAt (last_of a (way_of v.path.items)) e) is here
 
-few-broken : (p : HamtShape) (h : List ℕ → List ℕ) (told : Option (List (List ℕ))) (root : List TrieSlot) (at : List ℕ) (a : ℕ) (way : List (List ℕ × ℕ)) (b : ℕ) (todo : List Todo) (given : ℕ) (e : HamtFault) → Stands p told root way (leave b ∷ todo) given → given - b ≤ p.bucket
+few-broken : (p : HamtShape) (h : List ℕ → List ℕ) (told : Option (List (List ℕ))) (root : List TrieSlot) (at : List ℕ) (a : ℕ) (way : List (List ℕ × ℕ)) (b : ℕ) (todo : List Todo) (given : ℕ) (e : HamtFault) → WalkStands p told root way (leave b ∷ todo) given → given - b ≤ p.bucket
     → IsTrieFault e → IsFaultAt (last_of at way) e → IsBroken h p told root at a a e
 few-broken p h told root at a [] b todo given e s few trie here = absurd (root-stays p told root b todo given s)
 few-broken p h told root at a (c ∷ way) b todo given e s few trie here =
@@ -142,7 +142,7 @@ left-keeps p told v w before c todo path given here = λ root at on.
     let more = length-append w.path.items (c ∷ []) in
     let short = on.short in
     let way = way-long w.path.items in
-    let s = subst (λ q. Stands p told root q (leave before ∷ walker_todo w) v.given) (way-snoc v.path.items w.path.items c path) (stands-at p told root at v (leave before ∷ walker_todo w) todo on) in
+    let s = subst (λ q. WalkStands p told root q (leave before ∷ walker_todo w) v.given) (way-snoc v.path.items w.path.items c path) (stands-at p told root at v (leave before ∷ walker_todo w) todo on) in
     is-on p told root at w (way_of w.path.items) (walker_todo w) v.given (here ∙ on.here) (omega arith) refl refl given (left-stands p told root (c.id.0, c.index) (way_of w.path.items) before (walker_todo w) v.given (omega arith) s)
 
 pub few-keeps : (p : HamtShape) (h : List ℕ → List ℕ) (told : Option (List (List ℕ))) (a : ℕ) (v : Walker) (before : ℕ) (rest : List Todo) (e : HamtFault) → walker_todo v ≡ leave before ∷ rest → v.given - before ≤ p.bucket → IsTrieFault e → IsFaultAt (walker_here v) e
@@ -153,7 +153,7 @@ few-keeps p h told a v before rest e is few trie here = λ root at on.
 pub none-keeps : (p : HamtShape) (h : List ℕ → List ℕ) (told : Option (List (List ℕ))) (a : ℕ) (v : Walker) (before : ℕ) (rest : List Todo) (e : HamtFault) → walker_todo v ≡ leave before ∷ rest → length v.path.items ≡ 0 → FaultOn p h told a a v e v
 none-keeps p h told a v before rest e is none = λ root at on. absurd (by root v.path.items none (stands-at p told root at v (leave before ∷ rest) is on))
   where
-    by : (root : List TrieSlot) (path : List Child) → length path ≡ 0 → Stands p told root (way_of path) (leave before ∷ rest) v.given → ⊥
+    by : (root : List TrieSlot) (path : List Child) → length path ≡ 0 → WalkStands p told root (way_of path) (leave before ∷ rest) v.given → ⊥
     by root [] none s = root-stays p told root before rest v.given s
     by root (c ∷ path) none s = absurd (omega arith)
 

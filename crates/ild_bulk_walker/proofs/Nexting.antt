@@ -19,7 +19,7 @@ use Rattle.std.proofs.lemmas.List.{length-map}
 use Rattle.ild_bulk_walker.specs.Fetching.{IsRefused, OnlyGets}
 use Rattle.ild_bulk_walker.specs.Todo.{Todo, give, enter, leave, node_todo, fits, StillGives}
 use Rattle.ild_node_slots.proofs.Shapes.{levels_some}
-use Rattle.ild_bulk_walker.specs.Ahead.{Ahead, StillAhead, walker_todo, walker_path, walker_here, IsFaultAt, IsTrieFault, NothingTold, KeepsAhead, KeepsWhere, SameWhere, Leaves, Enters, EnterAnswer, IsPast, IsCause, IsUnchanged, Takes, Gives, GiveAnswer, GivesNext, IsNew, IsReady, BeginsWith, NextAnswer, Nexts, Counts, AnyRow, ComesNext}
+use Rattle.ild_bulk_walker.specs.Ahead.{Ahead, StillAhead, walker_todo, walker_path, walker_here, IsFaultAt, IsTrieFault, NothingTold, KeepsAhead, KeepsWhere, SameWhere, Leaves, Enters, EnterAnswer, IsPast, IsCause, IsUnchanged, TakesRow, Gives, GiveAnswer, GivesNext, IsNew, IsReady, BeginsWith, NextAnswer, Nexts, Counts, AnyRow, ComesNext}
 use Rattle.ild_bulk_walker.proofs.Opening.{root-on, root-off}
 use Rattle.ild_bulk_walker.proofs.Walking.{unchanged-still}
 use Rattle.ild_bulk_walker.specs.Standing.{KeepsOn, RowStands}
@@ -103,7 +103,7 @@ enters-most p a c m n u w r le x = record { answer = x.answer; given = x.given; 
 
 -- ---- giving
 
-pub taken : (p : HamtShape) (h : List ℕ → List ℕ) (v w : Walker) (g : GivesNext v) (r : Result (Option Row) HamtFault) → fits h p (walker_path v) g.index g.key ≡ true → Takes v r w → Gives h p v r w
+pub taken : (p : HamtShape) (h : List ℕ → List ℕ) (v w : Walker) (g : GivesNext v) (r : Result (Option Row) HamtFault) → fits h p (walker_path v) g.index g.key ≡ true → TakesRow v r w → Gives h p v r w
 taken p h v w g (Ok (Some row)) fit t = record {
   answer = record {
     value = t.value;

@@ -5,7 +5,7 @@ use Rattle.ild_data.specs.declared.hamt_shape.HamtShape.{HamtShape}
 use Rattle.ild_data.specs.Spell.{spell}
 use Rattle.ild_node_slots.specs.declared.fault.HamtFault.{HamtFault}
 use Rattle.ild_node_slots.specs.declared.fault.HamtFault.TheVariants as F
-use Rattle.ild_bulk_walker.specs.Ahead.{walker_todo, walker_here, GivesNext, IsTaken, Takes, IsNextRow, IsPassed, PassesStep, Gives, AnyRow, FitsNext}
+use Rattle.ild_bulk_walker.specs.Ahead.{walker_todo, walker_here, GivesNext, IsTaken, TakesRow, IsNextRow, IsPassed, PassesStep, Gives, AnyRow, FitsNext}
 use Rattle.ild_bulk_walker.specs.Steps.{entry_key, entry_value, IsRowOf}
 use Rattle.ild_bulk_walker.specs.Todo.{Todo, give}
 use Rattle.ild_bulk_walker.specs.declared.row.Row.{Row}
@@ -37,7 +37,7 @@ taken-row-of v w row n q =
 any-row : (v : Walker) → GivesNext v → (row : Row) × IsNextRow v row
 any-row v g = (record { key = g.key; value = spell g.value; block = record { 0 = walker_here v } }, record { value = g.value; index = g.index; rest = g.rest; was = g.is; spelled = refl; block = refl })
 
-pub takes-none : (v w : Walker) (e : HamtFault) → PassesStep v (Err e) w → Takes v (Err e) w
+pub takes-none : (v w : Walker) (e : HamtFault) → PassesStep v (Err e) w → TakesRow v (Err e) w
 takes-none v w F.Memory q = q
 takes-none v w F.Exhausted q = absurd q
 takes-none v w (F.Block id why) q = absurd q

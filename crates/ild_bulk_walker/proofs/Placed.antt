@@ -6,7 +6,7 @@ use Rattle.ild_data.specs.Data.{Data}
 use Rattle.ild_data.specs.Trie.{TrieSlot, empty, bucket, child}
 use Rattle.ild_data.specs.TrieShape.{trie_levels}
 use Rattle.ild_bulk_walker.specs.OnTree.{IsNodeAt, HasNode, IsOnTree, SlotMany, SlotsMany, TreeMany}
-use Rattle.ild_bulk_walker.specs.Standing.{indices_of, last_of, DoneMany, Stands}
+use Rattle.ild_bulk_walker.specs.Standing.{indices_of, last_of, DoneMany, WalkStands}
 use Rattle.ild_bulk_walker.specs.Todo.{Todo, give, enter, leave, slot_todo, node_todo}
 
 -- ---- no step of a node leaves it
@@ -116,8 +116,8 @@ ends todo [] behind a b steps is = let same : b ≡ a = cc in let tail : todo �
 ends todo (r ∷ rest) behind a b steps is = let head : r ≡ leave b = cc in absurd (subst (λ x. AreSteps (x ∷ rest)) head steps)
 
 -- a step of the innermost node is done, which gave so many
-pub pass : (p : HamtShape) (told : Option (List (List ℕ))) (root : List TrieSlot) (way : List (List ℕ × ℕ)) (t : Todo) (todo : List Todo) (given n : ℕ) → AreSteps (t ∷ []) → DoneMany p told (trie_levels p - suc (length way)) (t ∷ []) n → Stands p told root way (t ∷ todo) given
-    → Stands p told root way todo (given + n)
+pub pass : (p : HamtShape) (told : Option (List (List ℕ))) (root : List TrieSlot) (way : List (List ℕ × ℕ)) (t : Todo) (todo : List Todo) (given n : ℕ) → AreSteps (t ∷ []) → DoneMany p told (trie_levels p - suc (length way)) (t ∷ []) n → WalkStands p told root way (t ∷ todo) given
+    → WalkStands p told root way todo (given + n)
 pass p told root [] t todo given n step many s =
     record { done = s.done ++ t ∷ []; steps = s.steps ∙ sym (append_assoc s.done (t ∷ []) todo); gave = done-more p told (trie_levels p - 1) s.done t given n s.gave many }
 pass p told root (c ∷ way) t todo given n step many s =
@@ -146,9 +146,9 @@ pub record AtEnd (p : HamtShape) (told : Option (List (List ℕ))) (root : List 
   pub many : ℕ
   pub stands : SlotsMany (TreeMany p told (trie_levels p - suc (length (c ∷ way)))) slots many
   pub count : given ≡ b + many
-  pub still : Stands p told root way (enter c.0 c.1 ∷ todo) b
+  pub still : WalkStands p told root way (enter c.0 c.1 ∷ todo) b
 
-pub at-end : (p : HamtShape) (told : Option (List (List ℕ))) (root : List TrieSlot) (c : List ℕ × ℕ) (way : List (List ℕ × ℕ)) (b : ℕ) (todo : List Todo) (given : ℕ) → Stands p told root (c ∷ way) (leave b ∷ todo) given → AtEnd p told root c way b todo given
+pub at-end : (p : HamtShape) (told : Option (List (List ℕ))) (root : List TrieSlot) (c : List ℕ × ℕ) (way : List (List ℕ × ℕ)) (b : ℕ) (todo : List Todo) (given : ℕ) → WalkStands p told root (c ∷ way) (leave b ∷ todo) given → AtEnd p told root c way b todo given
 at-end p told root c way b todo given s =
     let e = ends todo s.rest s.above s.before b (rest-steps s.slots s.done s.rest s.steps) s.is in
     let whole : s.done ≡ node_todo 0 s.slots = sym (append-nil s.done) ∙ ap (λ r. s.done ++ r) (sym e.none) ∙ sym s.steps in
@@ -158,10 +158,10 @@ at-end p told root c way b todo given s =
       many = s.many;
       stands = slots-many p told (trie_levels p - suc (length (c ∷ way))) 0 s.slots s.many (subst (λ d. DoneMany p told (trie_levels p - suc (length (c ∷ way))) d s.many) whole s.gave);
       count = s.count ∙ ap (λ n. n + s.many) (sym e.before);
-      still = subst (λ ts. Stands p told root way (enter c.0 c.1 ∷ ts) b) (sym e.left) (subst (λ n. Stands p told root way (enter c.0 c.1 ∷ s.above) n) (sym e.before) s.still);
+      still = subst (λ ts. WalkStands p told root way (enter c.0 c.1 ∷ ts) b) (sym e.left) (subst (λ n. WalkStands p told root way (enter c.0 c.1 ∷ s.above) n) (sym e.before) s.still);
     }
 
-pub root-stays : (p : HamtShape) (told : Option (List (List ℕ))) (root : List TrieSlot) (b : ℕ) (todo : List Todo) (given : ℕ) → Stands p told root [] (leave b ∷ todo) given → ⊥
+pub root-stays : (p : HamtShape) (told : Option (List (List ℕ))) (root : List TrieSlot) (b : ℕ) (todo : List Todo) (given : ℕ) → WalkStands p told root [] (leave b ∷ todo) given → ⊥
 root-stays p told root b todo given s = rest-steps root s.done (leave b ∷ todo) s.steps
 
 one-left : (p : HamtShape) (n : ℕ) → suc n < trie_levels p → suc (trie_levels p - suc (suc n)) ≡ trie_levels p - suc n
@@ -170,18 +170,18 @@ one-left p n short = omega arith
 zero-more : (n : ℕ) → n ≡ n + 0
 zero-more n = omega arith
 
-pub left-stands : (p : HamtShape) (told : Option (List (List ℕ))) (root : List TrieSlot) (c : List ℕ × ℕ) (way : List (List ℕ × ℕ)) (b : ℕ) (todo : List Todo) (given : ℕ) → length (c ∷ way) < trie_levels p → Stands p told root (c ∷ way) (leave b ∷ todo) given
-    → Stands p told root way todo given
+pub left-stands : (p : HamtShape) (told : Option (List (List ℕ))) (root : List TrieSlot) (c : List ℕ × ℕ) (way : List (List ℕ × ℕ)) (b : ℕ) (todo : List Todo) (given : ℕ) → length (c ∷ way) < trie_levels p → WalkStands p told root (c ∷ way) (leave b ∷ todo) given
+    → WalkStands p told root way todo given
 left-stands p told root c way b todo given short s =
     let e = at-end p told root c way b todo given s in
-    subst (Stands p told root way todo) (sym e.count)
+    subst (WalkStands p told root way todo) (sym e.count)
     (pass p told root way (enter c.0 c.1) todo b e.many tt
     (e.many, 0, zero-more e.many, subst (λ left. TreeMany p told left c.0 e.many) (one-left p (length way) short) (record { slots = e.slots; node = e.node; many = e.stands }), refl) e.still)
 
 -- ---- entering
 
-pub enter-stands : (p : HamtShape) (told : Option (List (List ℕ))) (root : List TrieSlot) (way : List (List ℕ × ℕ)) (id : List ℕ) (i : ℕ) (slots : List TrieSlot) (todo : List Todo) (given : ℕ) → IsNodeAt p told id slots → Stands p told root way (enter id i ∷ todo) given
-    → Stands p told root ((id, i) ∷ way) (node_todo 0 slots ++ leave given ∷ todo) given
+pub enter-stands : (p : HamtShape) (told : Option (List (List ℕ))) (root : List TrieSlot) (way : List (List ℕ × ℕ)) (id : List ℕ) (i : ℕ) (slots : List TrieSlot) (todo : List Todo) (given : ℕ) → IsNodeAt p told id slots → WalkStands p told root way (enter id i ∷ todo) given
+    → WalkStands p told root ((id, i) ∷ way) (node_todo 0 slots ++ leave given ∷ todo) given
 enter-stands p told root way id i slots todo given node s = record {
   slots = slots;
   node = node;
@@ -206,7 +206,7 @@ pub record AtNode (p : HamtShape) (told : Option (List (List ℕ))) (root : List
   pub rest : List Todo
   pub steps : node_todo 0 slots ≡ done ++ t ∷ rest
 
-pub at-node : (p : HamtShape) (told : Option (List (List ℕ))) (root : List TrieSlot) (at : List ℕ) (way : List (List ℕ × ℕ)) (t : Todo) (todo : List Todo) (given : ℕ) → AreSteps (t ∷ []) → Stands p told root way (t ∷ todo) given → AtNode p told root at way t
+pub at-node : (p : HamtShape) (told : Option (List (List ℕ))) (root : List TrieSlot) (at : List ℕ) (way : List (List ℕ × ℕ)) (t : Todo) (todo : List Todo) (given : ℕ) → AreSteps (t ∷ []) → WalkStands p told root way (t ∷ todo) given → AtNode p told root at way t
 at-node p told root at [] t todo given step s = record { slots = root; node = refl; done = s.done; rest = todo; steps = s.steps }
 at-node p told root at (c ∷ way) t todo given step s =
     let k = cut t todo s.rest s.above s.before step s.is in
@@ -323,7 +323,7 @@ give-there slots done rest key value i is =
 
 -- ---- the way is one on the tree
 
-pub on-tree : (p : HamtShape) (told : Option (List (List ℕ))) (root : List TrieSlot) (at : List ℕ) (way : List (List ℕ × ℕ)) (todo : List Todo) (given : ℕ) → Stands p told root way todo given → IsOnTree p told root at (indices_of way) (last_of at way)
+pub on-tree : (p : HamtShape) (told : Option (List (List ℕ))) (root : List TrieSlot) (at : List ℕ) (way : List (List ℕ × ℕ)) (todo : List Todo) (given : ℕ) → WalkStands p told root way todo given → IsOnTree p told root at (indices_of way) (last_of at way)
 on-tree p told root at [] todo given s = refl
 on-tree p told root at (c ∷ way) todo given s =
     let n = at-node p told root at way (enter c.0 c.1) s.above s.before tt s.still in

@@ -20,7 +20,7 @@ use Rattle.ild_node_slots.specs.declared.fault.HamtFault.TheVariants as F
 use Rattle.ild_bulk_walker.specs.Gives.{IsNodeOf, TreeGives, SlotsGive}
 use Rattle.ild_bulk_walker.specs.Todo.{Todo, enter, leave, slot_todo, node_todo, StillGives}
 use Rattle.ild_bulk_walker.specs.Steps.{step_todo, steps_todo, path_of}
-use Rattle.ild_bulk_walker.specs.Ahead.{NextIs, StillAhead, walker_todo, walker_path, walker_here, IsTrieFault, IsFaultAt, NothingAhead, Leaves, IsPast, IsEntered, IsUnchanged, SameWhere, NothingTold, Opens, EnterAnswer, Enters}
+use Rattle.ild_bulk_walker.specs.Ahead.{NextIs, StillAhead, walker_todo, walker_path, walker_here, IsTrieFault, IsFaultAt, NothingAhead, Leaves, IsPast, IsEntered, IsUnchanged, SameWhere, NothingTold, EntersChild, EnterAnswer, Enters}
 use Rattle.ild_bulk_walker.specs.Fetching.{GotSteps, IsRefused, FetchAnswer, Fetches}
 use Rattle.ild_bulk_walker.specs.declared.step.Child.{Child}
 use Rattle.ild_bulk_walker.specs.declared.step.Step.{Step}
@@ -374,7 +374,7 @@ enter-stopped p m n v c e next short f = record {
 path-longer : (v w : Walker) (c : Child) → walker_path w ≡ walker_path v ++ c.index ∷ [] → length (walker_path w) ≡ length (walker_path v) + 1
 path-longer v w c is = ap (λ (q : List ℕ). length q) is ∙ length-append (walker_path v) (c.index ∷ [])
 
-pub enter-done : (p : HamtShape) (m n : Moment) (v w : Walker) (c : Child) (steps : Vec Step) (r : Result (Unit {0}) HamtFault) → NextIs (enter c.id.0 c.index) v → suc (length (walker_path v)) < trie_levels p → Fetches p m c.id.0 (Ok steps) n → Opens v c steps.items r w → Enters p 1 m v r w n
+pub enter-done : (p : HamtShape) (m n : Moment) (v w : Walker) (c : Child) (steps : Vec Step) (r : Result (Unit {0}) HamtFault) → NextIs (enter c.id.0 c.index) v → suc (length (walker_path v)) < trie_levels p → Fetches p m c.id.0 (Ok steps) n → EntersChild v c steps.items r w → Enters p 1 m v r w n
 enter-done p m n v w c steps (Ok u) next short f o = record {
   answer = entered-past p m n v w c steps.items f.answer o;
   given = o.given;
@@ -433,6 +433,6 @@ enter-deep p m v c e next short deep trie here = record {
     by F.NoKey t = absurd t
     by F.Memory t = absurd t
 
-pub enter-longer : (v w : Walker) (c : Child) (steps : Vec Step) (r : Result (Unit {0}) HamtFault) → Opens v c steps.items r w → OnOk r (length (walker_path w) ≡ length (walker_path v) + 1)
+pub enter-longer : (v w : Walker) (c : Child) (steps : Vec Step) (r : Result (Unit {0}) HamtFault) → EntersChild v c steps.items r w → OnOk r (length (walker_path w) ≡ length (walker_path v) + 1)
 enter-longer v w c steps (Ok u) o = path-longer v w c o.path
 enter-longer v w c steps (Err e) o = tt

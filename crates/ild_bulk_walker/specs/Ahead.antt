@@ -143,10 +143,10 @@ pub record IsUnchanged (v w : Walker) : Type 0 where
   pub children : w.path.items ≡ v.path.items
   pub at : w.at.0 ≡ v.at.0
 
-abbrev pub Opens : Walker → Child → List Step → Result (Unit {0}) HamtFault → Walker → Type 0
-Opens v c steps (Ok u) w = IsEntered v c steps w
-Opens v c steps (Err Memory) w = IsUnchanged v w
-Opens v c steps (Err e) w = ⊥
+abbrev pub EntersChild : Walker → Child → List Step → Result (Unit {0}) HamtFault → Walker → Type 0
+EntersChild v c steps (Ok u) w = IsEntered v c steps w
+EntersChild v c steps (Err Memory) w = IsUnchanged v w
+EntersChild v c steps (Err e) w = ⊥
 
 -- nothing is ahead, where the store tells what it holds
 abbrev pub NothingTold : HamtShape → Moment → Walker → Type 0
@@ -197,11 +197,11 @@ pub record IsTaken (v : Walker) (row : Row) (w : Walker) : Type 0 where
   pub at : w.at.0 ≡ v.at.0
   pub block : row.block.0 ≡ walker_here v
 
-abbrev pub Takes : Walker → Result (Option Row) HamtFault → Walker → Type 0
-Takes v (Ok (Some row)) w = IsTaken v row w
-Takes v (Ok None) w = ⊥
-Takes v (Err Memory) w = IsUnchanged v w
-Takes v (Err e) w = ⊥
+abbrev pub TakesRow : Walker → Result (Option Row) HamtFault → Walker → Type 0
+TakesRow v (Ok (Some row)) w = IsTaken v row w
+TakesRow v (Ok None) w = ⊥
+TakesRow v (Err Memory) w = IsUnchanged v w
+TakesRow v (Err e) w = ⊥
 
 -- the row is that of the next step, which gives an entry
 pub record IsNextRow (v : Walker) (row : Row) : Type 0 where

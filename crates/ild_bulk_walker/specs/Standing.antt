@@ -55,15 +55,15 @@ pub record StandsIn (p : HamtShape) (told : Option (List (List ℕ))) (left : �
   pub count : given ≡ before + many
   pub still : beneath (enter id index ∷ above) before
 
-abbrev pub Stands : HamtShape → Option (List (List ℕ)) → List TrieSlot → List (List ℕ × ℕ) → List Todo → ℕ → Type 0
-Stands p told root [] todo given = StandsAtRoot p told root todo given
-Stands p told root (c ∷ way) todo given = StandsIn p told (trie_levels p - suc (length (c ∷ way))) c.0 c.1 (Stands p told root way) todo given
+abbrev pub WalkStands : HamtShape → Option (List (List ℕ)) → List TrieSlot → List (List ℕ × ℕ) → List Todo → ℕ → Type 0
+WalkStands p told root [] todo given = StandsAtRoot p told root todo given
+WalkStands p told root (c ∷ way) todo given = StandsIn p told (trie_levels p - suc (length (c ∷ way))) c.0 c.1 (WalkStands p told root way) todo given
 
 -- the walker stands on the tree beneath a root of these slots, which is in the block `at`
 pub record IsOn (p : HamtShape) (told : Option (List (List ℕ))) (root : List TrieSlot) (at : List ℕ) (w : Walker) : Type 0 where
   pub here : w.at.0 ≡ at
   pub short : length w.path.items < trie_levels p
-  pub stands : Stands p told root (way_of w.path.items) (steps_todo w.steps.items) w.given
+  pub stands : WalkStands p told root (way_of w.path.items) (steps_todo w.steps.items) w.given
 
 -- ---- what is said of a refused block
 

@@ -2,7 +2,7 @@
 ghost use Rattle.std.specs.Prelude.{◌≡◌, ◌++◌, ◌∷◌, ◌<◌, [], length, map, IfOk, OnOk};
 ghost use Rattle.ild_data.specs.Data.{Data, Items as DataItems, items_list};
 ghost use Rattle.ild_cbor.specs.Chain.{chain};
-ghost use Rattle.ild_cbor.specs.Nodes.{Stands};
+ghost use Rattle.ild_cbor.specs.Nodes.{HasData};
 ghost use Rattle.ild_cbor.specs.Steps.{HasItems};
 ghost use Rattle.ild_typed.specs.NodeReading.{are_entries, child_in, map_bit};
 ghost use Rattle.ild_bulk_walker.specs.Steps.{step_todo};
@@ -70,7 +70,7 @@ fn add_entries(
 
 // Appends the child to whose block an item leads, where it is such a link: whether it is.
 fn add_child(steps: &mut Vec<Step>, element: &Node<'_>, index: u8) -> Result<bool, AllocError>
-    ensures { (t : Data) → Stands element.now t → IfOk result (λ r. ChildAdds (child_in t) index steps.old.items r steps.new.items) }
+    ensures { (t : Data) → HasData element.now t → IfOk result (λ r. ChildAdds (child_in t) index steps.old.items r steps.new.items) }
 {
     match child_in(element) {
         Some(id) => {
@@ -147,7 +147,7 @@ fn add_elements(
 
 // The map and the elements of an item that may be a node.
 fn parts_of<'b>(node: &Node<'b>) -> Option<(&'b [u8], Items<'b>)>
-    ensures { (t : Data) → Stands node.now t → PartsRead node.now t result }
+    ensures { (t : Data) → HasData node.now t → PartsRead node.now t result }
 {
     let (ones, data) = node.pair()?;
     let map = ones.bytes()?;
@@ -163,7 +163,7 @@ pub(crate) fn steps_in(
     node: Node<'_>,
 ) -> Result<Option<Vec<Step>>, AllocError>
     requires { IsNodeIn held.now.value node }
-    ensures { (t : Data) → Stands node.entry t → IfOk result (ReadsNode shape t) }
+    ensures { (t : Data) → HasData node.entry t → IfOk result (ReadsNode shape t) }
 {
     let Some((map, elements)) = parts_of(&node) else {
         return Ok(None);

@@ -47,7 +47,7 @@ impl Walker {
     ghost use Rattle.ild_node_slots.specs.Views.{HasSlots, view_shape};
     ghost use Rattle.ild_bulk_walker.specs.Todo.{enter, fits, leave};
     ghost use Rattle.ild_bulk_walker.specs.Steps.{entry_key};
-    ghost use Rattle.ild_bulk_walker.specs.Ahead.{AnyRow, Enters, Gives, GivesNext, IsDue, IsFaultAt, IsNew, IsNewLeft, IsNewOn, IsNextRow, IsPast, IsReady, Judges, IsTrieFault, Leaves, NextIs, Nexts, Opens, PassesStep, Readies, Takes, walker_here, walker_path, walker_shape, walker_todo};
+    ghost use Rattle.ild_bulk_walker.specs.Ahead.{AnyRow, Enters, Gives, GivesNext, IsDue, IsFaultAt, IsNew, IsNewLeft, IsNewOn, IsNextRow, IsPast, IsReady, Judges, IsTrieFault, Leaves, NextIs, Nexts, EntersChild, PassesStep, Readies, TakesRow, walker_here, walker_path, walker_shape, walker_todo};
 
     /// A walk beneath a root, which stands in the block of this id.
     pub fn new(alloc: Global, root: NodeView<'_>, at: BlockId) -> Result<Walker, AllocError>
@@ -141,7 +141,7 @@ impl Walker {
     // Puts the steps of a child in the place of entering it.
     fn open(&mut self, child: Child, steps: Vec<Step>) -> Result<(), HamtFault>
         requires { NextIs (enter child.id.0 child.index) self.old }
-        ensures opens { Opens self.old child steps.items result self.new }
+        ensures opens { EntersChild self.old child steps.items result self.new }
         ensures shape { walker_shape self.new ≡ walker_shape self.old }
     {
         let mut steps = steps;
@@ -238,10 +238,10 @@ impl Walker {
         Ok(())
     }
 
-    // Takes the next step, which gives an entry.
+    // TakesRow the next step, which gives an entry.
     fn take_row(&mut self) -> Result<Option<Row>, HamtFault>
         requires { GivesNext self.old }
-        ensures takes { Takes self.old result self.new }
+        ensures takes { TakesRow self.old result self.new }
         ensures shape { walker_shape self.new ≡ walker_shape self.old }
     {
         let row = self.next_row()?;

@@ -11,7 +11,7 @@ use Rattle.ild_cbor.specs.declared.start.Start.{Start}
 use Rattle.ild_cbor.specs.inside.Row.{IsRow}
 use Rattle.ild_cbor.specs.inside.Shape.{StartsAs}
 use Rattle.ild_cbor.specs.Spelled.{Spells}
-use Rattle.ild_cbor.specs.Nodes.{Stands, HasLast, AreAround}
+use Rattle.ild_cbor.specs.Nodes.{HasData, HasLast, AreAround}
 use Rattle.ild_cbor.specs.Span.{items_before, before_part, place_of, item_of}
 use Rattle.ild_cbor.proofs.Insides.{Inside, inside, HasSought, cut_items, list_if, part_within}
 
@@ -37,7 +37,7 @@ none_left : (ds : Items) → length (items_list ds) ≡ 0 → spell_items ds ≡
 none_left no_items e = refl
 none_left (item d ds) e = absurd (omega arith)
 
-has_last_in : (n : Node) (s : Start) (i : ℕ) (rest : List ℕ) (ds : Items) → Stands n (list ds) → StartsAs s (list ds) → i + 1 ≡ s.argument → ((es : Items) (x : List ℕ) → IsRow s.rest.now i es x → rest ≡ x)
+has_last_in : (n : Node) (s : Start) (i : ℕ) (rest : List ℕ) (ds : Items) → HasData n (list ds) → StartsAs s (list ds) → i + 1 ≡ s.argument → ((es : Items) (x : List ℕ) → IsRow s.rest.now i es x → rest ≡ x)
     → HasSoughtLast n rest (place_of (list ds) i) (item_of (list ds) i)
 has_last_in n s i rest ds h st last skips =
     let argument = st.argument_is in
@@ -64,11 +64,11 @@ has_last_in n s i rest ds h st last skips =
       end = refl;
     }
 
-pub has_last : (n : Node) (s : Start) (i : ℕ) (rest : List ℕ) (t : Data) → Stands n t → StartsAs s t → s.major ≡ 4 → i + 1 ≡ s.argument → ((es : Items) (x : List ℕ) → IsRow s.rest.now i es x → rest ≡ x)
+pub has_last : (n : Node) (s : Start) (i : ℕ) (rest : List ℕ) (t : Data) → HasData n t → StartsAs s t → s.major ≡ 4 → i + 1 ≡ s.argument → ((es : Items) (x : List ℕ) → IsRow s.rest.now i es x → rest ≡ x)
     → HasSoughtLast n rest (place_of t i) (item_of t i)
 has_last n s i rest t h st four last skips =
     let l = list_if t (sym st.major_is ∙ four) in
-    let P : Data → Type 0 = λ u. Stands n u → StartsAs s u → HasSoughtLast n rest (place_of u i) (item_of u i) in
+    let P : Data → Type 0 = λ u. HasData n u → StartsAs s u → HasSoughtLast n rest (place_of u i) (item_of u i) in
     subst P (sym l.1) (λ hl sl. has_last_in n s i rest l.0 hl sl last skips) h st
 
 -- ---- some items, and those around them
@@ -85,7 +85,7 @@ trees-append (x ∷ xs) ys t = let more = trees-append xs ys t.1 in ((t.0, more.
 row_of : (b : List ℕ) (n : ℕ) (xs ys : List Data) → b ≡ spell_items (items_of (xs ++ ys)) → AreTrees (items_of (xs ++ ys)) → length xs ≡ n → length b < 2 ^ 64 → IsRow b n (items_of xs) (spell_items (items_of ys))
 row_of b n xs ys is trees long short = record { is = is ∙ spell-append xs ys; count = length-items xs ∙ long; trees = (trees-append xs ys trees).0; short = short }
 
-pub around : (n : Node) (s : Start) (i m k : ℕ) (from back : List ℕ) (xs ys zs : List Data) → Stands n (list (items_of (xs ++ (ys ++ zs)))) → StartsAs s (list (items_of (xs ++ (ys ++ zs)))) → length xs ≡ i → length ys ≡ m
+pub around : (n : Node) (s : Start) (i m k : ℕ) (from back : List ℕ) (xs ys zs : List Data) → HasData n (list (items_of (xs ++ (ys ++ zs)))) → StartsAs s (list (items_of (xs ++ (ys ++ zs)))) → length xs ≡ i → length ys ≡ m
     → ((es : Items) (x : List ℕ) → IsRow s.rest.now i es x → from ≡ x) → ((es : Items) (x : List ℕ) → IsRow from m es x → back ≡ x)
     → k ≡ length s.rest.now - length from → AreAround (take k s.rest.now) back xs zs
 around n s i m k from back xs ys zs h st one two skips passes kept =

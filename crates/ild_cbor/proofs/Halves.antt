@@ -2,7 +2,7 @@
 use Rattle.std.proofs.Common.{◌≡◌, ℕ, ◌<◌, List, Some, None, sym, ap, ◌∙◌, arith}
 use Rattle.ild_data.specs.Data.{Data, list, Items, no_items, item}
 use Rattle.ild_data.specs.Shape.{major_of, argument_of}
-use Rattle.ild_cbor.specs.Nodes.{Stands}
+use Rattle.ild_cbor.specs.Nodes.{HasData}
 use Rattle.ild_cbor.specs.Pairing.{FindsPair}
 use Rattle.ild_cbor.specs.inside.Row.{IsRow}
 use Rattle.ild_cbor.specs.Scalar.{count_of}
@@ -17,7 +17,7 @@ none_passed : (b : List ℕ) (es : Items) (x : List ℕ) → IsRow b 0 es x → 
 none_passed b no_items x row = row.is
 none_passed b (item d es) x row = let c = row.count in absurd (omega arith)
 
-pub has_first : (n : Node) (s : Start) (t : Data) → Stands n t → StartsAs s t → s.major ≡ 4 → 0 < s.argument → HasSought n s.rest.now (place_of t 0) (item_of t 0)
+pub has_first : (n : Node) (s : Start) (t : Data) → HasData n t → StartsAs s t → s.major ≡ 4 → 0 < s.argument → HasSought n s.rest.now (place_of t 0) (item_of t 0)
 has_first n s t h st four some = has_item n s 0 s.rest.now t h st four some (λ es x row. none_passed s.rest.now es x row)
 
 pub two_there : (s : Start) (t : Data) → StartsAs s t → s.major ≡ 4 → s.argument ≡ 2 → count_of t ≡ Some 2

@@ -16,7 +16,7 @@ use Rattle.ild_data.specs.Shape.{major_of, string_of, parts_of}
 use Rattle.ild_data.proofs.Shapes.{keys_and_values-spell}
 use Rattle.ild_cbor.specs.inside.Shape.{StartsAs}
 use Rattle.ild_cbor.specs.Spelled.{Spells}
-use Rattle.ild_cbor.specs.Nodes.{Stands, IsPart, Finds, HasPart}
+use Rattle.ild_cbor.specs.Nodes.{HasData, IsPart, Finds, HasPart}
 use Rattle.ild_cbor.specs.Span.{items_before, values_before, before_part, place_of, item_of, key_index, index_of, entry_of}
 use Rattle.ild_cbor.specs.Scalar.{text_of}
 use Rattle.ild_cbor.specs.inside.OfHead.{string_in}
@@ -119,7 +119,7 @@ part_within t u front after w e tree nested =
     let l3 = length-append (spell u) after in
     record { tree = tree; nested = omega arith; sized = omega arith }
 
-has_item_in : (n : Node) (s : Start) (i : ℕ) (rest : List ℕ) (ds : Items) → Stands n (list ds) → StartsAs s (list ds) → i < s.argument → ((es : Items) (x : List ℕ) → IsRow s.rest.now i es x → rest ≡ x)
+has_item_in : (n : Node) (s : Start) (i : ℕ) (rest : List ℕ) (ds : Items) → HasData n (list ds) → StartsAs s (list ds) → i < s.argument → ((es : Items) (x : List ℕ) → IsRow s.rest.now i es x → rest ≡ x)
     → HasSought n rest (place_of (list ds) i) (item_of (list ds) i)
 has_item_in n s i rest ds h st lt skips =
     let argument = st.argument_is in
@@ -151,11 +151,11 @@ list_if (list ds) e = (ds, refl)
 list_if (map ms) e = absurd (omega arith)
 list_if (link s) e = absurd (omega arith)
 
-pub has_item : (n : Node) (s : Start) (i : ℕ) (rest : List ℕ) (t : Data) → Stands n t → StartsAs s t → s.major ≡ 4 → i < s.argument → ((es : Items) (x : List ℕ) → IsRow s.rest.now i es x → rest ≡ x)
+pub has_item : (n : Node) (s : Start) (i : ℕ) (rest : List ℕ) (t : Data) → HasData n t → StartsAs s t → s.major ≡ 4 → i < s.argument → ((es : Items) (x : List ℕ) → IsRow s.rest.now i es x → rest ≡ x)
     → HasSought n rest (place_of t i) (item_of t i)
 has_item n s i rest t h st four lt skips =
     let l = list_if t (sym st.major_is ∙ four) in
-    let P : Data → Type 0 = λ u. Stands n u → StartsAs s u → HasSought n rest (place_of u i) (item_of u i) in
+    let P : Data → Type 0 = λ u. HasData n u → StartsAs s u → HasSought n rest (place_of u i) (item_of u i) in
     subst P (sym l.1) (λ hl sl. has_item_in n s i rest l.0 hl sl lt skips) h st
 
 -- the part that was found is the one that was sought
@@ -176,7 +176,7 @@ map_if (list ds) e = absurd (omega arith)
 map_if (map ms) e = (ms, refl)
 map_if (link s) e = absurd (omega arith)
 
-map_rows : (n : Node) (s : Start) (ms : Members) → Stands n (map ms) → StartsAs s (map ms) → IsEntryRow s.rest.now s.argument ms []
+map_rows : (n : Node) (s : Start) (ms : Members) → HasData n (map ms) → StartsAs s (map ms) → IsEntryRow s.rest.now s.argument ms []
 map_rows n s ms h st =
     let w = h.within in
     let sized = w.sized in
@@ -185,7 +185,7 @@ map_rows n s ms h st =
     let l2 : length s.rest.now ≡ length (spell_members ms) = ap length is in
     record { is = is ∙ sym (append-nil (spell_members ms)); count = sym st.argument_is; entries = w.tree; short = omega arith }
 
-has_entry_in : (n : Node) (s : Start) (value key : List ℕ) (ms : Members) → Stands n (map ms) → StartsAs s (map ms) → ((ms : Members) → IsEntryRow s.rest.now s.argument ms [] → CutsValue s.rest.now value key ms)
+has_entry_in : (n : Node) (s : Start) (value key : List ℕ) (ms : Members) → HasData n (map ms) → StartsAs s (map ms) → ((ms : Members) → IsEntryRow s.rest.now s.argument ms [] → CutsValue s.rest.now value key ms)
     → HasSought n value (place_of (map ms) (index_of key (map ms))) (entry_of (map ms) key)
 has_entry_in n s value key ms h st cuts =
     let w = h.within in
@@ -201,18 +201,18 @@ has_entry_in n s value key ms h st cuts =
       at = refl;
     }
 
-pub has_entry : (n : Node) (s : Start) (value key : List ℕ) (t : Data) → Stands n t → StartsAs s t → s.major ≡ 5 → ((ms : Members) → IsEntryRow s.rest.now s.argument ms [] → CutsValue s.rest.now value key ms)
+pub has_entry : (n : Node) (s : Start) (value key : List ℕ) (t : Data) → HasData n t → StartsAs s t → s.major ≡ 5 → ((ms : Members) → IsEntryRow s.rest.now s.argument ms [] → CutsValue s.rest.now value key ms)
     → HasSought n value (place_of t (index_of key t)) (entry_of t key)
 has_entry n s value key t h st five cuts =
     let m = map_if t (sym st.major_is ∙ five) in
-    let P : Data → Type 0 = λ u. Stands n u → StartsAs s u → HasSought n value (place_of u (index_of key u)) (entry_of u key) in
+    let P : Data → Type 0 = λ u. HasData n u → StartsAs s u → HasSought n value (place_of u (index_of key u)) (entry_of u key) in
     subst P (sym m.1) (λ hm sm. has_entry_in n s value key m.0 hm sm cuts) h st
 
-pub no_entry : (n : Node) (s : Start) (key : List ℕ) (t : Data) → Stands n t → StartsAs s t → s.major ≡ 5 → ((ms : Members) → IsEntryRow s.rest.now s.argument ms [] → value_at key (members_list ms) ≡ None)
+pub no_entry : (n : Node) (s : Start) (key : List ℕ) (t : Data) → HasData n t → StartsAs s t → s.major ≡ 5 → ((ms : Members) → IsEntryRow s.rest.now s.argument ms [] → value_at key (members_list ms) ≡ None)
     → entry_of t key ≡ None
 no_entry n s key t h st five none =
     let m = map_if t (sym st.major_is ∙ five) in
-    let P : Data → Type 0 = λ u. Stands n u → StartsAs s u → entry_of u key ≡ None in
+    let P : Data → Type 0 = λ u. HasData n u → StartsAs s u → entry_of u key ≡ None in
     subst P (sym m.1) (λ hm sm. none m.0 (map_rows n s m.0 hm sm)) h st
 
 -- ---- texts and links
@@ -250,7 +250,7 @@ pub record LinkIs (t : Data) (string : List ℕ) : Type 0 where
   pub is : t ≡ link cid
   pub string_is : string ≡ 0 ∷ cid
 
-pub link_if : (n : Node) (s : Start) (string : List ℕ) (t : Data) → Stands n t → StartsAs s t → s.major ≡ 6 → ((major m : ℕ) (x : List ℕ) → m < 2 ^ 64 → s.rest.now ≡ head major m ++ x → string ≡ x) → LinkIs t string
+pub link_if : (n : Node) (s : Start) (string : List ℕ) (t : Data) → HasData n t → StartsAs s t → s.major ≡ 6 → ((major m : ℕ) (x : List ℕ) → m < 2 ^ 64 → s.rest.now ≡ head major m ++ x → string ≡ x) → LinkIs t string
 link_if n s string t h st six opened = go t (h.within) (st.rest_is) (sym st.major_is ∙ six)
   where
     go : (t : Data) → IsWithin t → s.rest.now ≡ string_of t ++ spell_items (parts_of t) → major_of t ≡ 6 → LinkIs t string

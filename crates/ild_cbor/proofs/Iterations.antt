@@ -9,7 +9,7 @@ use Rattle.ild_cbor.specs.declared.start.Start.{Start}
 use Rattle.ild_cbor.specs.inside.Row.{IsRow}
 use Rattle.ild_cbor.specs.inside.Shape.{StartsAs}
 use Rattle.ild_cbor.specs.Spelled.{Holds, Spells, SpellsItems, SpellsMembers}
-use Rattle.ild_cbor.specs.Nodes.{Stands}
+use Rattle.ild_cbor.specs.Nodes.{HasData}
 use Rattle.ild_cbor.proofs.Blocks.{held_from}
 use Rattle.ild_data.proofs.Shapes.{keys_and_values-spell}
 use Rattle.ild_cbor.proofs.Insides.{one_row, list_if, map_if}
@@ -120,7 +120,7 @@ pub record ItemsOf (n : Node) (rest : List ℕ) (count : ℕ) (t : Data) : Type 
   pub spells : SpellsItems n.block.now (n.to - length rest) count items
   pub place : n.to - length rest ≡ n.from + length (head 4 (length (items_list items)))
 
-items_of_in : (n : Node) (s : Start) (ds : Items) → Stands n (list ds) → StartsAs s (list ds) → ItemsOf n s.rest.now s.argument (list ds)
+items_of_in : (n : Node) (s : Start) (ds : Items) → HasData n (list ds) → StartsAs s (list ds) → ItemsOf n s.rest.now s.argument (list ds)
 items_of_in n s ds h st =
     let w = h.within in
     let nested = w.nested in
@@ -136,10 +136,10 @@ items_of_in n s ds h st =
       place = c.place;
     }
 
-pub items_in : (n : Node) (s : Start) (t : Data) → Stands n t → StartsAs s t → s.major ≡ 4 → ItemsOf n s.rest.now s.argument t
+pub items_in : (n : Node) (s : Start) (t : Data) → HasData n t → StartsAs s t → s.major ≡ 4 → ItemsOf n s.rest.now s.argument t
 items_in n s t h st four =
     let l = list_if t (sym st.major_is ∙ four) in
-    let P : Data → Type 0 = λ u. Stands n u → StartsAs s u → ItemsOf n s.rest.now s.argument u in
+    let P : Data → Type 0 = λ u. HasData n u → StartsAs s u → ItemsOf n s.rest.now s.argument u in
     subst P (sym l.1) (λ hl sl. items_of_in n s l.0 hl sl) h st
 
 -- ---- entries
@@ -217,7 +217,7 @@ pub record EntriesOf (n : Node) (rest : List ℕ) (count : ℕ) (t : Data) : Typ
   pub spells : SpellsMembers n.block.now (n.to - length rest) count members
   pub place : n.to - length rest ≡ n.from + length (head 5 (length (members_list members)))
 
-entries_of_in : (n : Node) (s : Start) (ms : Members) → Stands n (map ms) → StartsAs s (map ms) → EntriesOf n s.rest.now s.argument (map ms)
+entries_of_in : (n : Node) (s : Start) (ms : Members) → HasData n (map ms) → StartsAs s (map ms) → EntriesOf n s.rest.now s.argument (map ms)
 entries_of_in n s ms h st =
     let w = h.within in
     let nested = w.nested in
@@ -233,10 +233,10 @@ entries_of_in n s ms h st =
       place = c.place;
     }
 
-pub entries_in : (n : Node) (s : Start) (t : Data) → Stands n t → StartsAs s t → s.major ≡ 5 → EntriesOf n s.rest.now s.argument t
+pub entries_in : (n : Node) (s : Start) (t : Data) → HasData n t → StartsAs s t → s.major ≡ 5 → EntriesOf n s.rest.now s.argument t
 entries_in n s t h st five =
     let l = map_if t (sym st.major_is ∙ five) in
-    let P : Data → Type 0 = λ u. Stands n u → StartsAs s u → EntriesOf n s.rest.now s.argument u in
+    let P : Data → Type 0 = λ u. HasData n u → StartsAs s u → EntriesOf n s.rest.now s.argument u in
     subst P (sym l.1) (λ hl sl. entries_of_in n s l.0 hl sl) h st
 
 -- ---- the same of a part of the block as `&block[from..]` shows it

@@ -4,14 +4,14 @@ use Rattle.ild_data.specs.Bytes.{AreBytes}
 use Rattle.ild_data.specs.Data.{Data, Members, map}
 use Rattle.ild_data.specs.Spell.{spell}
 use Rattle.ild_cbor.specs.declared.node.Node.{Node}
-use Rattle.ild_cbor.specs.Nodes.{Stands}
+use Rattle.ild_cbor.specs.Nodes.{HasData}
 use Rattle.ild_cbor.specs.Block.{IsBlockOf}
 use Rattle.ild_cbor.specs.Reading.{fault_of}
 use Rattle.ild_cbor.specs.Span.{Span, tree_at, span_of, part_of, index_of, entry_of}
 
 -- a node stands for one tree
 abbrev pub OneTree : Type 0
-OneTree = (n : Node) (d e : Data) → Stands n d → Stands n e → d ≡ e
+OneTree = (n : Node) (d e : Data) → HasData n d → HasData n e → d ≡ e
 
 -- the blocks without a fault are the spellings of trees within the limits
 abbrev pub FaultlessAreSpelled : Type 0

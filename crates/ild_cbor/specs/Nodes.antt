@@ -14,18 +14,18 @@ abbrev pub start_of : Node → ℕ
 start_of n = n.from
 
 -- the node is the item that spells this tree
-abbrev pub Stands : Node → Data → Type 0
-Stands n t = Spells n.block.now n.from n.to t
+abbrev pub HasData : Node → Data → Type 0
+HasData n t = Spells n.block.now n.from n.to t
 
 -- the node is the one item of a block, from its first byte on
 pub record IsRoot (n : Node) (block : List ℕ) (t : Data) : Type 0 where
-  pub stands : Stands n t
+  pub stands : HasData n t
   pub block_is : block_of n ≡ block
   pub start_is : start_of n ≡ 0
 
 -- m is a part of n: it stands for the tree u, in the same block, this many bytes behind the start of n
 pub record IsPart (n m : Node) (place : ℕ) (u : Data) : Type 0 where
-  pub stands : Stands m u
+  pub stands : HasData m u
   pub block_is : block_of m ≡ block_of n
   pub start_is : start_of m ≡ start_of n + place
 
@@ -39,7 +39,7 @@ Finds n place None (Some m) = ⊥
 -- rest is the end of n's spelling, and begins with a part
 pub record HasPart (n : Node) (rest : List ℕ) : Type 0 where
   pub whole : Data
-  pub stands : Stands n whole
+  pub stands : HasData n whole
   pub front : List ℕ
   pub of : Data
   pub after : List ℕ

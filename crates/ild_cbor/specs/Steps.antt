@@ -6,7 +6,7 @@ use Rattle.ild_data.specs.Spell.{head, spell, spell_text}
 use Rattle.ild_cbor.specs.declared.node.Node.{Node}
 use Rattle.ild_cbor.specs.declared.items.Items.{Items as ItemsLeft}
 use Rattle.ild_cbor.specs.declared.pairs.Pairs.{Pairs}
-use Rattle.ild_cbor.specs.Nodes.{Stands, block_of, start_of}
+use Rattle.ild_cbor.specs.Nodes.{HasData, block_of, start_of}
 use Rattle.ild_cbor.specs.Spelled.{SpellsItems, SpellsMembers}
 use Rattle.ild_cbor.specs.Chain.{chain}
 
@@ -18,7 +18,7 @@ HasItems s ds = SpellsItems s.block.now s.from s.left ds
 
 -- a node for the first item, where the iterator stood, and an iterator that has the others left and stands behind it
 pub record StepsOver (s : ItemsLeft) (d : Data) (ds : Items) (n : Node) (t : ItemsLeft) : Type 0 where
-  pub stands : Stands n d
+  pub stands : HasData n d
   pub block_is : block_of n ≡ s.block.now
   pub start_is : start_of n ≡ s.from
   pub left : HasItems t ds
@@ -81,7 +81,7 @@ HasEntries s ms = SpellsMembers s.block.now s.from s.left ms
 -- the first key, a node for its value behind the key, and an iterator that has the others left and stands behind the value
 pub record StepsOverEntry (s : Pairs) (k : List ℕ) (d : Data) (ms : Members) (key : List ℕ) (n : Node) (t : Pairs) : Type 0 where
   pub key_is : key ≡ k
-  pub stands : Stands n d
+  pub stands : HasData n d
   pub block_is : block_of n ≡ s.block.now
   pub start_is : start_of n ≡ s.from + length (spell_text k)
   pub left : HasEntries t ms

@@ -4,7 +4,7 @@ ghost use Rattle.ild_data.specs.Data.{Data};
 ghost use Rattle.ild_data.specs.Spell.{spell};
 ghost use Rattle.ild_data.specs.CidRead.{is_cid};
 ghost use Rattle.ild_data.specs.CidView.{cid_bytes};
-ghost use Rattle.ild_cbor.specs.Nodes.{Stands, block_of, start_of};
+ghost use Rattle.ild_cbor.specs.Nodes.{HasData, block_of, start_of};
 ghost use Rattle.ild_cbor.specs.inside.Shape.{StartsAs};
 ghost use Rattle.ild_cbor.specs.Scalar.{kind_of, boolean_of, int_of, text_of, bytes_of, link_of, count_of};
 
@@ -25,28 +25,28 @@ impl<'b> Node<'b> {
     /// Where in the block the item begins, and how many bytes it has.
     pub fn span(&self) -> (usize, usize)
         ensures start { result.0 ≡ start_of self.now }
-        ensures size { (t : Data) → Stands self.now t → result.1 ≡ length (spell t) }
+        ensures size { (t : Data) → HasData self.now t → result.1 ≡ length (spell t) }
     {
         (self.from, self.to - self.from)
     }
 
     /// The bytes of the item.
     pub fn spelling(&self) -> &'b [u8]
-        ensures { (t : Data) → Stands self.now t → result.now ≡ spell t }
+        ensures { (t : Data) → HasData self.now t → result.now ≡ spell t }
     {
         &self.block[self.from..self.to]
     }
 
     // The head of the item, and the bytes of the item behind it.
     pub(crate) fn start(&self) -> Start<'b>
-        ensures { (t : Data) → Stands self.now t → StartsAs result t }
+        ensures { (t : Data) → HasData self.now t → StartsAs result t }
     {
         Start::of(self.spelling())
     }
 
     /// The kind of the item.
     pub fn kind(&self) -> Kind
-        ensures { (t : Data) → Stands self.now t → result ≡ kind_of t }
+        ensures { (t : Data) → HasData self.now t → result ≡ kind_of t }
     {
         match self.spelling() {
             [] => Kind::Null,
@@ -56,7 +56,7 @@ impl<'b> Node<'b> {
 
     /// The truth value, or `None` where the item is of another kind.
     pub fn boolean(&self) -> Option<bool>
-        ensures { (t : Data) → Stands self.now t → result ≡ boolean_of t }
+        ensures { (t : Data) → HasData self.now t → result ≡ boolean_of t }
     {
         let start = self.start();
         boolean_at(start.major, start.argument)
@@ -64,7 +64,7 @@ impl<'b> Node<'b> {
 
     /// The integer, or `None` where the item is of another kind.
     pub fn int(&self) -> Option<Int>
-        ensures { (t : Data) → Stands self.now t → result ≡ int_of t }
+        ensures { (t : Data) → HasData self.now t → result ≡ int_of t }
     {
         let start = self.start();
         int_at(start.major, start.argument)
@@ -72,7 +72,7 @@ impl<'b> Node<'b> {
 
     /// The text, or `None` where the item is of another kind.
     pub fn text(&self) -> Option<&'b str>
-        ensures { (t : Data) → Stands self.now t → option_map (λ s. s.now) result ≡ text_of t }
+        ensures { (t : Data) → HasData self.now t → option_map (λ s. s.now) result ≡ text_of t }
     {
         let start = self.start();
         match string_at_major(3, start.major, start.rest) {
@@ -83,7 +83,7 @@ impl<'b> Node<'b> {
 
     /// The byte string, or `None` where the item is of another kind.
     pub fn bytes(&self) -> Option<&'b [u8]>
-        ensures { (t : Data) → Stands self.now t → option_map (λ s. s.now) result ≡ bytes_of t }
+        ensures { (t : Data) → HasData self.now t → option_map (λ s. s.now) result ≡ bytes_of t }
     {
         let start = self.start();
         string_at_major(2, start.major, start.rest)
@@ -92,7 +92,7 @@ impl<'b> Node<'b> {
     // The binary CID of a link.
     fn cid(&self) -> Option<&'b [u8]>
         ensures form { IfSome result (λ s. is_cid s.now ≡ true) }
-        ensures same { (t : Data) → Stands self.now t → option_map (λ s. s.now) result ≡ link_of t }
+        ensures same { (t : Data) → HasData self.now t → option_map (λ s. s.now) result ≡ link_of t }
     {
         let start = self.start();
         if start.major != 6 {
@@ -107,7 +107,7 @@ impl<'b> Node<'b> {
 
     /// The CID of a link, or `None` where the item is of another kind.
     pub fn link(&self) -> Option<CidRef<'b>>
-        ensures { (t : Data) → Stands self.now t → option_map cid_bytes result ≡ link_of t }
+        ensures { (t : Data) → HasData self.now t → option_map cid_bytes result ≡ link_of t }
     {
         match self.cid() {
             Some(cid) => Some(CidRef::known(cid)),
@@ -117,7 +117,7 @@ impl<'b> Node<'b> {
 
     /// How many parts a list or a map has, or `None` where the item is of another kind.
     pub fn count(&self) -> Option<u64>
-        ensures { (t : Data) → Stands self.now t → result ≡ count_of t }
+        ensures { (t : Data) → HasData self.now t → result ≡ count_of t }
     {
         let start = self.start();
         count_at(start.major, start.argument)

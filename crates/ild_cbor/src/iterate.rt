@@ -2,7 +2,7 @@
 ghost use Rattle.std.specs.Prelude.{◌≡◌};
 ghost use Rattle.std.specs.Iterator.{at_most};
 ghost use Rattle.ild_data.specs.Data.{Data};
-ghost use Rattle.ild_cbor.specs.Nodes.{Stands};
+ghost use Rattle.ild_cbor.specs.Nodes.{HasData};
 ghost use Rattle.ild_cbor.specs.Steps.{ItemsGive, EntriesGive, FindsItems, FindsEntries, Unfolds, items_of, members_of};
 
 use crate::items::Items;
@@ -16,7 +16,7 @@ use crate::start::Start;
 impl<'b> Node<'b> {
     /// The items of a list in order, or `None` where this item is no list.
     pub fn items(&self) -> Option<Items<'b>>
-        ensures { (t : Data) → Stands self.now t → FindsItems self.now (items_of t) result }
+        ensures { (t : Data) → HasData self.now t → FindsItems self.now (items_of t) result }
     {
         let start = self.start();
         if start.major != 4 {
@@ -31,7 +31,7 @@ impl<'b> Node<'b> {
 
     /// The keys and values of a map in order, or `None` where this item is no map.
     pub fn entries(&self) -> Option<Pairs<'b>>
-        ensures { (t : Data) → Stands self.now t → FindsEntries self.now (members_of t) result }
+        ensures { (t : Data) → HasData self.now t → FindsEntries self.now (members_of t) result }
     {
         let start = self.start();
         if start.major != 5 {

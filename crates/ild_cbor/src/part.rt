@@ -1,7 +1,7 @@
 //! The parts of an item.
 ghost use Rattle.std.specs.Prelude.{◌≡◌, ◌++◌, List, length};
 ghost use Rattle.ild_data.specs.Data.{Data, items_of, list};
-ghost use Rattle.ild_cbor.specs.Nodes.{Stands, IsPart, Finds, HasPart, HasLast, AreAround};
+ghost use Rattle.ild_cbor.specs.Nodes.{HasData, IsPart, Finds, HasPart, HasLast, AreAround};
 ghost use Rattle.ild_cbor.specs.Span.{place_of, item_of, entry_of, index_of};
 ghost use Rattle.ild_cbor.specs.Pairing.{FindsPair};
 
@@ -37,7 +37,7 @@ impl<'b> Node<'b> {
 
     /// The item at a place of a list, or `None` past the last, and where this item is no list.
     pub fn item(&self, i: u64) -> Option<Node<'b>>
-        ensures { (t : Data) → Stands self.now t → Finds self.now (place_of t i) (item_of t i) result }
+        ensures { (t : Data) → HasData self.now t → Finds self.now (place_of t i) (item_of t i) result }
     {
         let start = self.start();
         if start.major != 4 || i >= start.argument {
@@ -52,7 +52,7 @@ impl<'b> Node<'b> {
 
     /// The two items of a list of two, or `None` where this item is none.
     pub fn pair(&self) -> Option<(Node<'b>, Node<'b>)>
-        ensures { (t : Data) → Stands self.now t → FindsPair self.now t result }
+        ensures { (t : Data) → HasData self.now t → FindsPair self.now t result }
     {
         let start = self.start();
         if start.major != 4 || start.argument != 2 {
@@ -69,7 +69,7 @@ impl<'b> Node<'b> {
 
     /// What stands in a list before `m` of its items from number `i` on, and what stands behind them, as it is spelled.
     pub fn items_around(&self, i: u64, m: u64) -> (&'b [u8], &'b [u8])
-        ensures { (xs ys zs : List Data) → Stands self.now (list (items_of (xs ++ (ys ++ zs)))) → length xs ≡ i → length ys ≡ m → AreAround result.0.now result.1.now xs zs }
+        ensures { (xs ys zs : List Data) → HasData self.now (list (items_of (xs ++ (ys ++ zs)))) → length xs ≡ i → length ys ≡ m → AreAround result.0.now result.1.now xs zs }
     {
         let items = self.start().rest;
         let from = skip(items, i);
@@ -79,7 +79,7 @@ impl<'b> Node<'b> {
 
     /// The value at a key of a map, or `None` where the key is absent, and where this item is no map.
     pub fn entry(&self, key: &str) -> Option<Node<'b>>
-        ensures { (t : Data) → Stands self.now t → Finds self.now (place_of t (index_of key.now t)) (entry_of t key.now) result }
+        ensures { (t : Data) → HasData self.now t → Finds self.now (place_of t (index_of key.now t)) (entry_of t key.now) result }
     {
         let start = self.start();
         if start.major != 5 {

@@ -3,7 +3,7 @@ ghost use Rattle.std.specs.Prelude.{◌≡◌, ◌<◌, ◌&&◌, IfOk, IfSome, 
 ghost use Rattle.std.specs.List.{list_all};
 ghost use Rattle.ild_schema.specs.DataKinds.{kind_number, same_kind};
 ghost use Rattle.ild_schema.specs.Hex.{bytes_of_hex};
-ghost use Rattle.ild_schema.specs.Marks.{kind_of, text_of};
+ghost use Rattle.ild_schema.specs.Marks.{mark_kind, mark_text};
 ghost use Rattle.ild_schema.specs.Table.{def_at};
 ghost use Rattle.ild_schema.specs.declared.def.TypeDef.TheVariants as D;
 ghost use Rattle.ild_schema.specs.declared.def.EnumForm.TheVariants as E;
@@ -79,7 +79,7 @@ fn value_named<'s>(
 
 /// The text behind a member, where one is there.
 fn text_of(mark: &Mark) -> Option<&Txt>
-    ensures { option_map (λ s. s.now) result ≡ text_of mark.now }
+    ensures { option_map (λ s. s.now) result ≡ mark_text mark.now }
 {
     match mark {
         Mark::Text(text) => Some(text),
@@ -89,7 +89,7 @@ fn text_of(mark: &Mark) -> Option<&Txt>
 
 /// The kind behind a member, where one is there.
 fn kind_of(mark: &Mark) -> Option<KindWord>
-    ensures { result ≡ kind_of mark.now }
+    ensures { result ≡ mark_kind mark.now }
 {
     match mark {
         Mark::Kind(kind) => Some(*kind),
@@ -154,7 +154,7 @@ fn is_same_int(number: Option<i128>, other: Option<i128>) -> bool
 
 /// The bytes that the text behind a member gives in hexadecimal.
 fn prefix_of(alloc: Global, mark: &Mark) -> Result<Option<Octets>, AllocError>
-    ensures { IfOk result (λ bytes. bytes ≡ option_and_then bytes_of_hex (text_of mark.now)) }
+    ensures { IfOk result (λ bytes. bytes ≡ option_and_then bytes_of_hex (mark_text mark.now)) }
 {
     match text_of(mark) {
         Some(text) => bytes_of_hex(alloc, text.as_str().as_bytes()),
@@ -163,7 +163,7 @@ fn prefix_of(alloc: Global, mark: &Mark) -> Result<Option<Octets>, AllocError>
 }
 
 fn has_same_prefix(alloc: Global, mark: &Mark, other: &Mark) -> Result<bool, AllocError>
-    ensures { IfOk result (λ b. b ≡ is_same_text (option_and_then bytes_of_hex (text_of mark.now)) (option_and_then bytes_of_hex (text_of other.now))) }
+    ensures { IfOk result (λ b. b ≡ is_same_text (option_and_then bytes_of_hex (mark_text mark.now)) (option_and_then bytes_of_hex (mark_text other.now))) }
 {
     let bytes = prefix_of(alloc, mark)?;
     let others = prefix_of(alloc, other)?;

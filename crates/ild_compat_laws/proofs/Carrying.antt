@@ -29,7 +29,7 @@ use Rattle.ild_typed.specs.Blocks.{hamt_nodes, nodes, nodes_of_values, nodes_of_
 use Rattle.ild_typed.specs.Composed.{Hamts, composed, any_data, map_form, member_form, enum_form}
 use Rattle.ild_typed.specs.Fits.{FormFits, ValueFits}
 use Rattle.ild_typed.specs.Hamt.{whole, alone}
-use Rattle.ild_typed.specs.Layers.{IsNotNull, AreKeysApart, AreKeys, Shows, EntriesFit, RootFits}
+use Rattle.ild_typed.specs.Layers.{IsNotNull, AreKeysApart, AreKeys, RepresentsSome, EntriesFit, RootFits}
 use Rattle.ild_typed.specs.Levels.{levels_of, map_levels}
 use Rattle.ild_typed.specs.Nested.{TreeIn}
 use Rattle.ild_typed.specs.Node as N
@@ -229,7 +229,7 @@ module _ (rows others : List Row) (set : Slot → Slot → Bool) (closed : IsClo
         nodes = λ h k n. in_both n (nodes h rows u v) (nodes_of_values h rows u vs) (nodes h others w x.value) (nodes_of_values h others w y.values) (x.nodes h k n) (y.nodes h k n);
       }
 
-  shows_carried : (o : ℕ) (u w : Slot) (x : Data) → set u w ≡ true → Shows (before o) rows u x → Shows (after o) others w x
+  shows_carried : (o : ℕ) (u w : Slot) (x : Data) → set u w ≡ true → RepresentsSome (before o) rows u x → RepresentsSome (after o) others w x
   shows_carried o u w x s (v, f, e) = let c = later alone good_alone o u w v x s f e in (c.value, c.fits, c.tree)
 
   module _ (at : Hamts) (g : Good at) (o : ℕ) (u w : Slot) (s : set u w ≡ true) (P Q : List ℕ × Value → Type 0) (has : (k : List ℕ) (v : Value) → P (k, v) → before o u v)
@@ -513,8 +513,8 @@ module _ (rows others : List Row) (set : Slot → Slot → Bool) (closed : IsClo
             let there : form_of others b ≡ Some (D.Map o.key o.key_at w o.place mf) = k.is ∙ ap Some other in
             let asks : AllIn set ((plainly key, plainly o.key) ∷ (u, w) ∷ []) = subst (λ c. AllIn set (asked_of (D.Map key ka u up mf) c)) other k.asks in
             let c = pairs_carried at g (map_levels mf - 1) u w asks.1.0
-            (λ p. IsUtf8 p.0 × Shows (before (map_levels mf - 1)) rows (plainly key) (T.text p.0) × before (map_levels mf - 1) u p.1)
-            (λ p. IsUtf8 p.0 × Shows (after (map_levels mf - 1)) others (plainly o.key) (T.text p.0) × after (map_levels mf - 1) w p.1)
+            (λ p. IsUtf8 p.0 × RepresentsSome (before (map_levels mf - 1)) rows (plainly key) (T.text p.0) × before (map_levels mf - 1) u p.1)
+            (λ p. IsUtf8 p.0 × RepresentsSome (after (map_levels mf - 1)) others (plainly o.key) (T.text p.0) × after (map_levels mf - 1) w p.1)
             (λ q v x. x.2) (λ q v x y z. (y.0, shows_carried (map_levels mf - 1) (plainly key) (plainly o.key) (T.text q) asks.0 y.1, z)) ps es entries.1 part.there in
             record {
               value = V.map c.pairs;
@@ -541,7 +541,7 @@ module _ (rows others : List Row) (set : Slot → Slot → Bool) (closed : IsClo
             let asks : AllIn set ((u, anything) ∷ []) =
             subst (λ z. AllIn set (cond z ((u, anything) ∷ []) [])) any.1 (subst (λ c. AllIn set (asked_of (D.Map key ka u up mf) c)) any.0 k.asks) in
             let c = pairs_carried at g (map_levels mf - 1) u anything asks.0
-            (λ p. IsUtf8 p.0 × Shows (before (map_levels mf - 1)) rows (plainly key) (T.text p.0) × before (map_levels mf - 1) u p.1) (λ p. Unit {0}) (λ q v x. x.2) (λ q v x y z. tt) ps es entries.1 part.there in
+            (λ p. IsUtf8 p.0 × RepresentsSome (before (map_levels mf - 1)) rows (plainly key) (T.text p.0) × before (map_levels mf - 1) u p.1) (λ p. Unit {0}) (λ q v x. x.2) (λ q v x y z. tt) ps es entries.1 part.there in
             let up_keys : Rises (pairs_list ps) = subst (λ z. AreKeys z (pairs_list ps)) plain entries.0 in
             let same : shown_pairs rows u ps ≡ es = sym c.shown ∙ any_pairs_shown at others anything c.pairs es first_any c.tree in
             let data_of : map_data es ≡ t = same_Some (map_data es) t (ap (λ z. map_form at z (L.map es)) (sym plain) ∙ made) in
@@ -576,7 +576,7 @@ module _ (rows others : List Row) (set : Slot → Slot → Bool) (closed : IsClo
             let inside : RootFits (after 4) others shape o.key w x = (
               root.0,
               root.1,
-              all_more (λ r. Shows (before 4) rows (plainly key) (T.text r.0) × Shows (before 4) rows u r.1) (λ r. Shows (after 4) others (plainly o.key) (T.text r.0) × Shows (after 4) others w r.1)
+              all_more (λ r. RepresentsSome (before 4) rows (plainly key) (T.text r.0) × RepresentsSome (before 4) rows u r.1) (λ r. RepresentsSome (after 4) others (plainly o.key) (T.text r.0) × RepresentsSome (after 4) others w r.1)
                   (λ r y. (shows_carried 4 (plainly key) (plainly o.key) (T.text r.0) asks.0 y.0, shows_carried 4 u w r.1 asks.1.0 y.1)) (N.entries_in root.0) root.2,
             ) in
             keep at a b (V.hamt x) t (L.hamt x) (D.Map o.key o.key_at w o.place (MF.Hamt shape)) (λ h. h) refl there (holds.0, inr inside) made refl (λ h n i. i)

@@ -15,7 +15,7 @@ use Rattle.ild_schema.specs.declared.def.Member.{Member}
 use Rattle.ild_schema.specs.declared.def.EnumMember.{EnumMember}
 use Rattle.ild_schema.specs.DataKinds.{same_kind}
 use Rattle.ild_schema.specs.Hex.{bytes_of_hex}
-use Rattle.ild_schema.specs.Marks.{text_of, kind_of, member_text, member_integer}
+use Rattle.ild_schema.specs.Marks.{mark_text, mark_kind, member_text, member_integer}
 use Rattle.ild_typed.specs.Composed.{member_form, marked_form, enum_form}
 use Rattle.ild_typed.specs.Strings.{bytes_in}
 use Rattle.ild_compat.specs.Fields.{is_same_text, is_same_kind, is_same_int, has_same_mark, has_same_value}
@@ -57,15 +57,15 @@ by_bytes d None = refl
 by_bytes d (Some s) = refl
 
 pub same_member : (form : UnionForm) (m n : Member) (d : Data) → has_same_mark form m n ≡ true → member_form form d m ≡ member_form form d n
-same_member UF.Keyed m n d h = ap (option_and_then (marked_form UF.Keyed d)) (same_text (text_of m.mark) (text_of n.mark) h)
-same_member UF.Kinded m n d h = ap (option_and_then _) (same_kinds (kind_of m.mark) (kind_of n.mark) h)
-same_member UF.StringPrefix m n d h = ap (option_and_then (marked_form UF.StringPrefix d)) (same_text (text_of m.mark) (text_of n.mark) h)
+same_member UF.Keyed m n d h = ap (option_and_then (marked_form UF.Keyed d)) (same_text (mark_text m.mark) (mark_text n.mark) h)
+same_member UF.Kinded m n d h = ap (option_and_then _) (same_kinds (mark_kind m.mark) (mark_kind n.mark) h)
+same_member UF.StringPrefix m n d h = ap (option_and_then (marked_form UF.StringPrefix d)) (same_text (mark_text m.mark) (mark_text n.mark) h)
 same_member UF.BytesPrefix m n d h =
-    by_bytes d (text_of m.mark)
-    ∙ ap (option_and_then (λ front. option_map (λ s. T.bytes (front ++ s)) (bytes_in d))) (same_text (option_and_then bytes_of_hex (text_of m.mark)) (option_and_then bytes_of_hex (text_of n.mark)) h)
-    ∙ sym (by_bytes d (text_of n.mark))
-same_member (UF.Envelope key content) m n d h = ap (option_and_then (marked_form (UF.Envelope key content) d)) (same_text (text_of m.mark) (text_of n.mark) h)
-same_member (UF.Inline key) m n d h = ap (option_and_then (marked_form (UF.Inline key) d)) (same_text (text_of m.mark) (text_of n.mark) h)
+    by_bytes d (mark_text m.mark)
+    ∙ ap (option_and_then (λ front. option_map (λ s. T.bytes (front ++ s)) (bytes_in d))) (same_text (option_and_then bytes_of_hex (mark_text m.mark)) (option_and_then bytes_of_hex (mark_text n.mark)) h)
+    ∙ sym (by_bytes d (mark_text n.mark))
+same_member (UF.Envelope key content) m n d h = ap (option_and_then (marked_form (UF.Envelope key content) d)) (same_text (mark_text m.mark) (mark_text n.mark) h)
+same_member (UF.Inline key) m n d h = ap (option_and_then (marked_form (UF.Inline key) d)) (same_text (mark_text m.mark) (mark_text n.mark) h)
 
 pub same_value : (form : EnumForm) (m n : EnumMember) → has_same_value form m n ≡ true → enum_form form m ≡ enum_form form n
 same_value E.Text m n h = ap (λ s. Some (T.text s)) (texts_same (member_text m) (member_text n) h)

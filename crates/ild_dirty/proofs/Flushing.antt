@@ -15,7 +15,7 @@ use Rattle.ild_edges.proofs.Held.{block_at_id}
 use Rattle.ild_edges.specs.Among.{IsIn}
 use Rattle.ild_edges.proofs.Among.{IsIn-left, IsIn-right, IsIn-contains, IsIn-of}
 use Rattle.ild_dirty.specs.Own.{index_at}
-use Rattle.ild_dirty.specs.Beneath.{Place, Places, place, no_places, beside, block_of, kind_of, IsTree, AreTrees, HasPlace, HasPlaceBelow, IsTreeAt, AgreesWith, blocks_in, blocks_below, places_in, places_below}
+use Rattle.ild_dirty.specs.Beneath.{Place, Places, place, no_places, beside, block_of, place_kind, IsTree, AreTrees, HasPlace, HasPlaceBelow, IsTreeAt, AgreesWith, blocks_in, blocks_below, places_in, places_below}
 use Rattle.ild_dirty.specs.inside.Walk.{own_block, Leads, LeadOn, is_in, is_done, are_done, is_ready, HasReady, Follows, AreStuck, IsPlan}
 use Rattle.ild_dirty.specs.Flush.{PutsAnswer, PutsAll, StopsAfter, AreCarried, IsWholeIn, CameWholeIn, FlushAnswer, Flushes}
 use Rattle.ild_dirty.specs.declared.fault.FlushFault.{FlushFault}
@@ -77,7 +77,7 @@ and_both true false p q = absurd (let bad : false ≡ true = q in cc)
 
 mutual
   in_order : (own : List (List ℕ)) (children : ℕ → List ℕ → List (List ℕ × ℕ)) (spots : List (ℕ × ℕ)) (order : List ℕ) → LeadOn own children spots spots → AreStuck own children order spots
-      → (t : Place) → IsTree children t → AgreesWith own (blocks_in t) → (i : ℕ) → index_at own (id_of (block_of t)) ≡ Some i → IsIn (i, kind_of t) spots → is_in i order ≡ true
+      → (t : Place) → IsTree children t → AgreesWith own (blocks_in t) → (i : ℕ) → index_at own (id_of (block_of t)) ≡ Some i → IsIn (i, place_kind t) spots → is_in i order ≡ true
   in_order own children spots order closed stuck (place b k ts) tree agrees i found reached =
       let top : b ≡ own_block own i = top_is own (place b k ts) (id_of b) (own_block own i) agrees refl (index_found own (id_of b) i found).1 in
       let same : children k (own_block own i) ≡ children k b = ap (children k) (sym top) in
@@ -104,7 +104,7 @@ tree_by own was now b rest (Some i) found carried keeps each = each i found
 
 mutual
   pub tree_held : (own was now : List (List ℕ)) (children : ℕ → List ℕ → List (List ℕ × ℕ)) (spots : List (ℕ × ℕ)) (order : List ℕ) → LeadOn own children spots spots → AreStuck own children order spots → AreHeld (map (own_block own) order) now → Keeps was now
-      → (t : Place) → IsTree children t → AgreesWith own (blocks_in t) → AreCarried was own (places_in t) → ((i : ℕ) → index_at own (id_of (block_of t)) ≡ Some i → IsIn (i, kind_of t) spots) → AreHeld (blocks_in t) now
+      → (t : Place) → IsTree children t → AgreesWith own (blocks_in t) → AreCarried was own (places_in t) → ((i : ℕ) → index_at own (id_of (block_of t)) ≡ Some i → IsIn (i, place_kind t) spots) → AreHeld (blocks_in t) now
   tree_held own was now children spots order closed stuck put keeps (place b k ts) tree agrees carried reached = tree_by own was now b (blocks_below ts) (index_at own (id_of b)) refl carried.0 keeps (λ i found.
       let top : b ≡ own_block own i = top_is own (place b k ts) (id_of b) (own_block own i) agrees refl (index_found own (id_of b) i found).1 in
       let here : block_at now (id_of (own_block own i)) ≡ Some (own_block own i) = held_at own now order i put (in_order own children spots order closed stuck (place b k ts) tree agrees i found (reached i found)) in
@@ -241,7 +241,7 @@ pub flushed : (own : List (List ℕ)) (children : ℕ → List ℕ → List (Lis
 flushed own children id kind order m result n plan puts t tree agrees =
     let places : (s : ℕ × ℕ) → IsIn s plan.spots → HasPlace t (own_block own s.0) s.1 = plan.reached.sound t tree agrees in
     let inside : (b : List ℕ) → IsIn b (map (own_block own) order) → IsIn b (blocks_in t) = ordered_in own children plan.spots [] order (blocks_in t) plan.follows (λ i k is. place_block t (own_block own i) k (places (i, k) is)) in
-    let root : (i : ℕ) → index_at own (id_of (block_of t)) ≡ Some i → IsIn (i, kind_of t) plan.spots =
+    let root : (i : ℕ) → index_at own (id_of (block_of t)) ≡ Some i → IsIn (i, place_kind t) plan.spots =
     λ i e. subst (λ (k : ℕ). IsIn (i, k) plan.spots) (sym tree.same_kind) (plan.reached.rooted (i, kind) (record { child = (id, kind); among = inl refl; found = ap (index_at own) (sym tree.top) ∙ e; kind = refl })) in
     record {
       puts = λ blocks among.

@@ -6,7 +6,7 @@ use Rattle.std.proofs.Math.ListN.{set}
 use Rattle.std.specs.Prelude.{replicate}
 use Rattle.ild_edges.specs.Among.{IsIn}
 use Rattle.ild_edges.proofs.Among.{IsIn-at}
-use Rattle.ild_dirty.specs.inside.Walk.{AreInside, is_in, is_done, are_done, is_ready, HasReady, Follows, AreStuck, unmarked, AreMarks, IsSoFar, Passes}
+use Rattle.ild_dirty.specs.inside.Walk.{AreInside, is_in, is_done, are_done, is_ready, HasReady, Follows, AreStuck, unmarked, AreMarks, IsSoFar, PassesSpots}
 
 -- ---- children that are done
 
@@ -138,7 +138,7 @@ passing_next own children spots old left next more new now marks after s d lt at
       stuck = λ e. absurd cc;
     }
 
-pub passed : (own : List (List ℕ)) (children : ℕ → List ℕ → List (List ℕ × ℕ)) (spots : List (ℕ × ℕ)) (old : List ℕ) (left : ℕ) (more : Bool) (new : List ℕ) (marks : List Bool) → left ≡ 0 → Passing own children spots old left more new marks → Passes own children spots old more new marks
+pub passed : (own : List (List ℕ)) (children : ℕ → List ℕ → List (List ℕ × ℕ)) (spots : List (ℕ × ℕ)) (old : List ℕ) (left : ℕ) (more : Bool) (new : List ℕ) (marks : List Bool) → left ≡ 0 → Passing own children spots old left more new marks → PassesSpots own children spots old more new marks
 passed own children spots old left more new marks is p = record {
   so_far = p.so_far;
   grown = p.grown;

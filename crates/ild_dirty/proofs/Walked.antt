@@ -4,7 +4,7 @@ use Rattle.std.proofs.lemmas.List.{take_more, take_all, take-append-le}
 use Rattle.ild_edges.specs.Among.{IsIn}
 use Rattle.ild_edges.proofs.Among.{IsIn-left, IsIn-append, IsIn-one, IsIn-at}
 use Rattle.ild_dirty.specs.Own.{index_at}
-use Rattle.ild_dirty.specs.Beneath.{Place, HasPlace, IsTreeAt, AgreesWith, blocks_in, block_of, kind_of}
+use Rattle.ild_dirty.specs.Beneath.{Place, HasPlace, IsTreeAt, AgreesWith, blocks_in, block_of, place_kind}
 use Rattle.ild_dirty.specs.inside.Walk.{own_block, IsOneOf, Leads, Grows, LeadOn, ArePlaces, AreInside, AreReached}
 use Rattle.ild_dirty.proofs.Walking.{index_found, own_found, child_place, top_is, has_top}
 
@@ -21,7 +21,7 @@ same_tree_place children own id kind t tree agrees s one =
     let found : index_at own id ≡ Some s.0 = subst (λ (x : List ℕ × ℕ). index_at own x.0 ≡ Some s.0) is one.found in
     let sort : kind ≡ s.1 = subst (λ (x : List ℕ × ℕ). x.1 ≡ s.1) is one.kind in
     let top : block_of t ≡ own_block own s.0 = top_is own t id (own_block own s.0) agrees tree.top (index_found own id s.0 found).1 in
-    let sorts : kind_of t ≡ s.1 = tree.same_kind ∙ sort in
+    let sorts : place_kind t ≡ s.1 = tree.same_kind ∙ sort in
     rw (← top, ← sorts) (has_top t)
 
 -- a walk begins at its root

@@ -11,7 +11,7 @@ use Rattle.ild_edges.proofs.Held.{block_at_id}
 use Rattle.ild_edges.specs.Among.{IsIn}
 use Rattle.ild_edges.proofs.Among.{IsIn-left, IsIn-right, IsIn-append, IsIn-one, IsIn-at}
 use Rattle.ild_dirty.specs.Own.{index_at}
-use Rattle.ild_dirty.specs.Beneath.{Place, Places, place, no_places, beside, block_of, kind_of, IsTree, AreTrees, HasPlace, HasPlaceBelow, AgreesWith, blocks_in, blocks_below}
+use Rattle.ild_dirty.specs.Beneath.{Place, Places, place, no_places, beside, block_of, place_kind, IsTree, AreTrees, HasPlace, HasPlaceBelow, AgreesWith, blocks_in, blocks_below}
 use Rattle.ild_dirty.specs.inside.Walk.{IsOwn, own_block, IsOneOf, Grows, AreNoted}
 
 -- ---- members
@@ -132,7 +132,7 @@ agrees_top : (own : List (List ℕ)) (t : Place) → AgreesWith own (blocks_in t
 agrees_top own (place b k ts) all = all.0
 
 -- the top of a tree is its first place
-pub has_top : (t : Place) → HasPlace t (block_of t) (kind_of t)
+pub has_top : (t : Place) → HasPlace t (block_of t) (place_kind t)
 has_top (place b k ts) = inl (refl, refl)
 
 agreed : (o : Option (List ℕ)) (c b : List ℕ) → (o ≡ None) ⊎ (o ≡ Some c) → o ≡ Some b → c ≡ b
@@ -148,7 +148,7 @@ child_below children own [] ts trees c is b agrees found = absurd is
 child_below children own (d ∷ cs) no_places trees c is b agrees found = absurd trees
 child_below children own (d ∷ cs) (beside t ts) trees c (inl same) b agrees found =
     let top : block_of t ≡ b = top_is own t c.0 b (agrees_left own (blocks_in t) (blocks_below ts) agrees) (trees.0 ∙ ap (λ (x : List ℕ × ℕ). x.0) (sym same)) found in
-    let kind : kind_of t ≡ c.1 = trees.1 ∙ ap (λ (x : List ℕ × ℕ). x.1) (sym same) in
+    let kind : place_kind t ≡ c.1 = trees.1 ∙ ap (λ (x : List ℕ × ℕ). x.1) (sym same) in
     inl (rw (← top, ← kind) (has_top t))
 child_below children own (d ∷ cs) (beside t ts) trees c (inr more) b agrees found = inr (child_below children own cs ts trees.3 c more b (agrees_right own (blocks_in t) (blocks_below ts) agrees) found)
 

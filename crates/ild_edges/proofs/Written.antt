@@ -1,7 +1,7 @@
 -- What was written, one piece after another.
 use Rattle.std.proofs.Common.{◌≡◌, ℕ, List, [], ◌++◌, ◌≤◌, Option, Some, None, Result, Ok, Err, refl, sym, ap, subst, ◌∙◌, append_assoc, append-nil}
 use Rattle.std.specs.Prelude.{IsErrAnd}
-use Rattle.ild_edges.specs.Sink.{Appends, AppendsFront, HasFront, Output, Writes}
+use Rattle.ild_edges.specs.Sink.{Appends, AppendsFront, FrontIsWritten, Output, Writes}
 use Rattle.ild_edges.specs.declared.error.EdgeErr.{EdgeErr}
 use Rattle.ild_edges.specs.declared.error.EdgeErr.TheVariants.{Failed, Memory}
 
@@ -18,7 +18,7 @@ appends_then None None (Some c) x y p q = absurd q
 appends_then (Some a) (Some b) None x y p q = absurd q
 
 -- nothing is a front of any text
-pub HasFront-none : (text was : List ℕ) → HasFront text was was
+pub HasFront-none : (text was : List ℕ) → FrontIsWritten text was was
 HasFront-none text was = record { front = []; rest = text; whole = refl; is = sym (append-nil was) }
 
 pub front_none : (was : Option (List ℕ)) (text : List ℕ) → AppendsFront was was text

@@ -15,7 +15,7 @@ abbrev pub Appends : Option (List ℕ) → Option (List ℕ) → List ℕ → Ty
 Appends was now text = BothTold was now (λ a b. b ≡ a ++ text)
 
 -- some front of the text stands behind the old bytes
-pub record HasFront (text old new : List ℕ) : Type 0 where
+pub record FrontIsWritten (text old new : List ℕ) : Type 0 where
   pub front : List ℕ
   pub rest : List ℕ
   pub whole : text ≡ front ++ rest
@@ -23,7 +23,7 @@ pub record HasFront (text old new : List ℕ) : Type 0 where
 
 -- some front of the text was appended
 abbrev pub AppendsFront : Option (List ℕ) → Option (List ℕ) → List ℕ → Type 0
-AppendsFront was now text = BothTold was now (HasFront text)
+AppendsFront was now text = BothTold was now (FrontIsWritten text)
 
 abbrev pub WritesAnswer : Output → List ℕ → Result (Unit {0}) EdgeErr → Output → Type 0
 WritesAnswer m piece (Ok _) n = Appends m.written n.written piece

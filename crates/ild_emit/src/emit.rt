@@ -1,6 +1,6 @@
 //! A buffer of spellings.
 ghost use Rattle.std.specs.Prelude.{◌≡◌, ◌++◌, ◌<◌, [], length, IfOk, OnOk, OnErr};
-ghost use Rattle.ild_cbor.specs.Nodes.{Stands};
+ghost use Rattle.ild_cbor.specs.Nodes.{HasData};
 ghost use Rattle.ild_data.specs.Data.{Data};
 ghost use Rattle.ild_data.specs.Spell.{head, spell, spell_int, spell_text, spell_bytes, spell_link, cid_of};
 
@@ -124,7 +124,7 @@ impl Emit {
 
     /// Appends the spelling of a node, copied from its block, or leaves the buffer unchanged.
     pub fn node(&mut self, node: &Node<'_>) -> Result<(), AllocError>
-        ensures ok { (t : Data) → Stands node.now t → OnOk result (self.new ≡ self.old ++ spell t) }
+        ensures ok { (t : Data) → HasData node.now t → OnOk result (self.new ≡ self.old ++ spell t) }
         ensures err { OnErr result (self.new ≡ self.old) }
     {
         self.out.extend_from_slice(node.spelling())?;

@@ -24,7 +24,7 @@ use Rattle.ild_schema.specs.Marks.{member_text}
 use Rattle.ild_typed.specs.Causes.{why_of}
 use Rattle.ild_typed.specs.Composed.{enum_form}
 use Rattle.ild_typed.specs.Fields.{same_int}
-use Rattle.ild_typed.specs.Kinds.{kind_of}
+use Rattle.ild_typed.specs.Kinds.{kind_word_of}
 use Rattle.ild_typed.specs.PlainWhy.{is_value, enum_member}
 use Rattle.ild_typed.specs.Strings.{text_in}
 use Rattle.ild_typed.specs.Why as W
@@ -56,10 +56,10 @@ kind_first true true a b = refl
 kind_first true false a b = absurd (cc)
 kind_first false k a b = absurd (cc)
 
-pub unagreed : (e : EnumDef) (text : List ℕ) (t : Data) → same_kind (enum_kind e.form) (kind_of t) ≡ true → Agrees e.form e.members text t
+pub unagreed : (e : EnumDef) (text : List ℕ) (t : Data) → same_kind (enum_kind e.form) (kind_word_of t) ≡ true → Agrees e.form e.members text t
     → position_from (λ m. bytes_eq text (member_text m)) 0 e.members ≡ None → why_of (D.Enum e) t ≡ Some W.Member
 unagreed e text t kind all none =
-    kind_first (same_kind (enum_kind e.form) (kind_of t)) (enum_member e.form e.members t) kind
+    kind_first (same_kind (enum_kind e.form) (kind_word_of t)) (enum_member e.form e.members t) kind
     (ap not (none_ended (λ m. bytes_eq text (member_text m)) (λ m. is_value (enum_form e.form m) t) 0 e.members all none))
 
 -- ---- texts
@@ -100,8 +100,8 @@ integers_agree form ms z is int =
 
 -- ---- as a search by the text of the data ends
 
-kind_is : (form : EnumForm) (t d : Data) → t ≡ d → same_kind (enum_kind form) (kind_of d) ≡ true → same_kind (enum_kind form) (kind_of t) ≡ true
-kind_is form t d is same = ap (λ x. same_kind (enum_kind form) (kind_of x)) is ∙ same
+kind_is : (form : EnumForm) (t d : Data) → t ≡ d → same_kind (enum_kind form) (kind_word_of d) ≡ true → same_kind (enum_kind form) (kind_word_of t) ≡ true
+kind_is form t d is same = ap (λ x. same_kind (enum_kind form) (kind_word_of x)) is ∙ same
 
 pub text_found : (e : EnumDef) (t : Data) (s : List ℕ) (n : ℕ) → e.form ≡ F.Text → Some s ≡ text_in t
     → position_from (λ m. bytes_eq s (member_text m)) 0 e.members ≡ Some n → option_and_then (enum_form e.form) (slice_get e.members n) ≡ Some t

@@ -23,7 +23,7 @@ use Rattle.ild_typed.proofs.Lists.{pairs_list-pairs_of}
 use Rattle.ild_typed.specs.EachLayer.{some_pair}
 use Rattle.ild_typed.specs.Fits.{FitsPast, Fits}
 use Rattle.ild_typed.specs.Judged.{has_hole, breaks_delimiter, exhausts, is_hole, breaks}
-use Rattle.ild_typed.specs.Layers.{EntriesFit, Shows}
+use Rattle.ild_typed.specs.Layers.{EntriesFit, RepresentsSome}
 use Rattle.ild_typed.specs.Stands.{bare}
 use Rattle.ild_generator.specs.Generated.{refusal}
 use Rattle.ild_generator.specs.Schema.{generator_rows, generator_type}
@@ -45,7 +45,7 @@ rises_entries [] h = tt
 rises_entries (e ∷ es) h = (below_entries e.0 es h.0, rises_entries es h.1)
 
 each_fits : (es : Entries) → AllByRecursion (λ e. IsUtf8 e.0 × IsInt e.1) es
-    → AllByRecursion (λ p. IsUtf8 p.0 × Shows (FitsPast generator_rows 95 4) generator_rows (plainly (number 7)) (T.text p.0) × FitsPast generator_rows 95 4 int_slot p.1) (map int_entry es)
+    → AllByRecursion (λ p. IsUtf8 p.0 × RepresentsSome (FitsPast generator_rows 95 4) generator_rows (plainly (number 7)) (T.text p.0) × FitsPast generator_rows 95 4 int_slot p.1) (map int_entry es)
 unfolding FitsPast
 each_fits [] all = tt
 each_fits (e ∷ es) all = (((all.0).0, (V.text e.0, (omega arith, (all.0).0), refl), (omega arith, (all.0).1)), each_fits es all.1)

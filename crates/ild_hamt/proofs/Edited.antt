@@ -27,7 +27,7 @@ use Rattle.ild_hamt_climb.specs.NodeBytes.{IsNodeBytes}
 use Rattle.ild_hamt_climb.specs.Planning.{HoldsLinksOf, IsWritten, PutsWay, Rising, SpellsNode, ClimbsOver}
 use Rattle.ild_hamt_climb.proofs.NodeTests.{node-tested}
 use Rattle.ild_hamt_climb.proofs.Planning.{planned-bare}
-use Rattle.ild_hamt.specs.Edits.{EditAnswer, Edits, EditsFrom, RemovesAlong, entries_at_end, is_full_at_end}
+use Rattle.ild_hamt.specs.Edits.{EditAnswer, SetsAlong, EditsFrom, RemovesAlong, entries_at_end, is_full_at_end}
 use Rattle.ild_hamt.proofs.After.{told-both}
 use Rattle.ild_hamt.proofs.Beneath.{among-take}
 use Rattle.ild_hamt.proofs.Planned.{BegunAt, full-at-end}
@@ -105,7 +105,7 @@ leaves p bs plan full m (Err (F.Block id why)) n rises is = leaves-puts p bs pla
 leaves p bs plan full m (Err F.Store) n rises is = leaves-puts p bs plan m (Err F.Store) n rises is
 leaves p bs plan full m (Err (F.Clash id kept new)) n rises is = leaves-puts p bs plan m (Err (F.Clash id kept new)) n rises is
 
-edits : (p : HamtShape) (bs plan : List (List ℕ)) (full : Bool) (m : Moment) (r : Result (List ℕ) HamtFault) (n : Moment) → AllByRecursion SpellsNode plan → length plan < trie_levels p → EditAnswer p full plan m r n → Leaves p bs plan m n → Edits p bs full m r n
+edits : (p : HamtShape) (bs plan : List (List ℕ)) (full : Bool) (m : Moment) (r : Result (List ℕ) HamtFault) (n : Moment) → AllByRecursion SpellsNode plan → length plan < trie_levels p → EditAnswer p full plan m r n → Leaves p bs plan m n → SetsAlong p bs full m r n
 edits p bs plan full m r n nodes few answer left = record {
   plan = plan;
   nodes = nodes;
@@ -130,7 +130,7 @@ fuller p full plan m (Err F.Store) n is = is
 fuller p full plan m (Err (F.Clash id kept new)) n is = is
 
 pub edits-begun : (p : HamtShape) (bs : List (List ℕ)) (full : Bool) (left : ℕ) (s : TrieSlot) (begun : List (List ℕ)) (m : Moment) (r : Result (List ℕ) HamtFault) (n : Moment) → left + length bs < trie_levels p → BegunAt left s begun → EditsFrom p bs s begun m r n
-    → Edits p bs full m r n
+    → SetsAlong p bs full m r n
 edits-begun p bs full left s begun m r n short start from =
     edits p bs from.plan full m r n (from.climbs.nodes start.nodes) (let a = from.climbs.few in let b = start.few in omega (arith, a, b, short)) (fuller p full from.plan m r n from.answer)
     (leaves p bs from.plan false m r n (λ held all. from.climbs.rises held all (start.planned held)) from.answer)
@@ -142,12 +142,12 @@ bare-at s plan bare none = record {
   planned = λ held. planned-bare held s plan bare none;
 }
 
-pub edits-none : (p : HamtShape) (bs : List (List ℕ)) (full : Bool) (m : Moment) (r : Result (List ℕ) HamtFault) → EditAnswer p full [] m r m → Edits p bs full m r m
+pub edits-none : (p : HamtShape) (bs : List (List ℕ)) (full : Bool) (m : Moment) (r : Result (List ℕ) HamtFault) → EditAnswer p full [] m r m → SetsAlong p bs full m r m
 edits-none p bs full m r answer = edits p bs [] full m r m tt (levels_some p) answer (leaves-all p bs [] m)
 
 -- ---- a removal
 
-pub removes-along : (p : HamtShape) (k : List ℕ) (es : List (List ℕ × Data)) (bs : List (List ℕ)) (m : Moment) (r : Result (List ℕ) HamtFault) (n : Moment) → IsSome (find bytewise k es) → Edits p bs false m r n → RemovesAlong p k es bs m r n
+pub removes-along : (p : HamtShape) (k : List ℕ) (es : List (List ℕ × Data)) (bs : List (List ℕ)) (m : Moment) (r : Result (List ℕ) HamtFault) (n : Moment) → IsSome (find bytewise k es) → SetsAlong p bs false m r n → RemovesAlong p k es bs m r n
 removes-along p k es bs m (Ok root) n some is = (some, is)
 removes-along p k es bs m (Err F.NoKey) n some is = absurd is.answer
 removes-along p k es bs m (Err F.Exhausted) n some is = (some, is)
@@ -162,7 +162,7 @@ removes-along p k es bs m (Err (F.Clash id kept new)) n some is = (some, is)
 -- no slot is planned there
 pub slot-stopped : (p : HamtShape) (h : List ℕ → List ℕ) (k : List ℕ) (v : Data) (bs : List (List ℕ)) (last : List TrieSlot) (depth : ℕ) (rows : List (List ℕ × Data)) (e : HamtFault) (old plan : List (List ℕ)) (m : Moment)
     → IsInOrder (entries_at_end h p k bs last) → length (entries_at_end h p k bs last) ≤ p.bucket → depth ≡ length bs + 1 → rows ≡ put bytewise k v (entries_at_end h p k bs last)
-    → PlansSlot h p (trie_levels p - depth) depth rows (Err e) old plan → Edits p bs (is_full_at_end h p k bs last) m (Err e) m
+    → PlansSlot h p (trie_levels p - depth) depth rows (Err e) old plan → SetsAlong p bs (is_full_at_end h p k bs last) m (Err e) m
 slot-stopped p h k v bs last depth rows F.Exhausted old plan m order small deep same plans = edits-none p bs (is_full_at_end h p k bs last) m (Err F.Exhausted) (full-at-end p h k v bs last depth rows order small deep same plans, refl)
 slot-stopped p h k v bs last depth rows F.Memory old plan m order small deep same plans = edits-none p bs (is_full_at_end h p k bs last) m (Err F.Memory) (inl refl)
 slot-stopped p h k v bs last depth rows F.NoKey old plan m order small deep same plans = absurd plans

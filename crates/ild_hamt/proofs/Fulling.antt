@@ -28,7 +28,7 @@ use Rattle.ild_node_slots.specs.Views.{HasSlots, HasEntries, ValueIn, bucket_nod
 use Rattle.ild_hamt_climb.proofs.Shown.{value-found}
 use Rattle.ild_hamt_climb.proofs.Upward.{next-part}
 use Rattle.ild_hamt.specs.declared.trail.Trail.{Trail}
-use Rattle.ild_hamt_climb.specs.Seen.{Shows, ValueIs}
+use Rattle.ild_hamt_climb.specs.Seen.{IsReadOf, ValueIs}
 use Rattle.ild_hamt.specs.Ends.{EndsAt, agree, agreeing}
 use Rattle.ild_bulk_walker.specs.Gives.{IsNodeOf}
 use Rattle.ild_hamt_climb.specs.Way.{slot_for}
@@ -161,32 +161,32 @@ trail-end h p k slots es t trail = by_many (length (trail_blocks t)) refl
         }
 
 -- what is found in the slot at the end
-pub end-bucket : (most : ℕ) (fs : List (List ℕ × Data)) (b : Bucket) → length fs ≤ most → Shows (S.Bucket b) (sized most empty fs) → HasEntries b fs
+pub end-bucket : (most : ℕ) (fs : List (List ℕ × Data)) (b : Bucket) → length fs ≤ most → IsReadOf (S.Bucket b) (sized most empty fs) → HasEntries b fs
 end-bucket most [] b le is = absurd is
 end-bucket most (e ∷ es) b le is =
-    subst (λ (c : Bool). Shows (S.Bucket b) (cond c (bucket (e ∷ es)) empty)) (le-leb (length (e ∷ es)) most le) is
+    subst (λ (c : Bool). IsReadOf (S.Bucket b) (cond c (bucket (e ∷ es)) empty)) (le-leb (length (e ∷ es)) most le) is
 
-pub not-empty : (most : ℕ) (fs : List (List ℕ × Data)) → length fs ≤ most → Shows S.Empty (sized most empty fs) → fs ≡ []
+pub not-empty : (most : ℕ) (fs : List (List ℕ × Data)) → length fs ≤ most → IsReadOf S.Empty (sized most empty fs) → fs ≡ []
 not-empty most [] le is = refl
-not-empty most (e ∷ es) le is = absurd (subst (λ (c : Bool). Shows S.Empty (cond c (bucket (e ∷ es)) empty)) (le-leb (length (e ∷ es)) most le) is)
+not-empty most (e ∷ es) le is = absurd (subst (λ (c : Bool). IsReadOf S.Empty (cond c (bucket (e ∷ es)) empty)) (le-leb (length (e ∷ es)) most le) is)
 
-pub not-child : (most : ℕ) (fs : List (List ℕ × Data)) (id : BlockId) → length fs ≤ most → Shows (S.Child id) (sized most empty fs) → fs ≡ []
+pub not-child : (most : ℕ) (fs : List (List ℕ × Data)) (id : BlockId) → length fs ≤ most → IsReadOf (S.Child id) (sized most empty fs) → fs ≡ []
 not-child most [] id le is = refl
-not-child most (e ∷ es) id le is = absurd (subst (λ (c : Bool). Shows (S.Child id) (cond c (bucket (e ∷ es)) empty)) (le-leb (length (e ∷ es)) most le) is)
+not-child most (e ∷ es) id le is = absurd (subst (λ (c : Bool). IsReadOf (S.Child id) (cond c (bucket (e ∷ es)) empty)) (le-leb (length (e ∷ es)) most le) is)
 
 -- the slot that a trail's end reads
 pub end-read : (p : HamtShape) (h : List ℕ → List ℕ) (root : NodeView) (k : List ℕ) (slots : List TrieSlot) (es : List (List ℕ × Data)) (t : Trail) (blocks : List (List ℕ)) (x : NodeSlot)
     → HasSlots p root slots → IsTrailOf h p k slots es t → blocks ≡ trail_blocks t
     → ((ss last : List TrieSlot) → HasSlots p root ss → EndsAt p ss blocks last → t.depth ≡ length blocks → t.depth < trie_levels p
-    → Shows x (slot_for p t.hash t.depth last))
-    → Shows x (sized p.bucket empty (along h p k (length (trail_blocks t) + 1) 0 es))
+    → IsReadOf x (slot_for p t.hash t.depth last))
+    → IsReadOf x (sized p.bucket empty (along h p k (length (trail_blocks t) + 1) 0 es))
 end-read p h root k slots es t blocks x has trail same reads =
     let end = trail-end h p k slots es t trail in
     let at = reads slots end.last has (subst (λ (bs : List (List ℕ)). EndsAt p slots bs end.last) (sym same) end.ends) (trail.depth ∙ ap length (sym same)) (let lt = trail.short in omega (arith, trail.depth)) in
-    subst (λ (s : TrieSlot). Shows x s) ((λ i. slot_for p (trail.hash i) (trail.depth i) end.last) ∙ end.slot) at
+    subst (λ (s : TrieSlot). IsReadOf x s) ((λ i. slot_for p (trail.hash i) (trail.depth i) end.last) ∙ end.slot) at
 
 pub found-bucket : (h : List ℕ → List ℕ) (p : HamtShape) (k key : List ℕ) (slots : List TrieSlot) (es : List (List ℕ × Data)) (t : Trail) (b : Bucket) (r : Option Node)
-    → IsTrailOf h p k slots es t → key ≡ k → Shows (S.Bucket b) (sized p.bucket empty (along h p k (length (trail_blocks t) + 1) 0 es))
+    → IsTrailOf h p k slots es t → key ≡ k → IsReadOf (S.Bucket b) (sized p.bucket empty (along h p k (length (trail_blocks t) + 1) 0 es))
     → ((fs : List (List ℕ × Data)) → HasEntries b fs → ValueIn (bucket_node b) fs key (find bytewise key fs) r) → ValueIs (find bytewise k es) r
 found-bucket h p k key slots es t b r trail named is finds =
     let fs : List (List ℕ × Data) = along h p k (length (trail_blocks t) + 1) 0 es in
@@ -196,11 +196,11 @@ found-no : (h : List ℕ → List ℕ) (p : HamtShape) (k : List ℕ) (n : ℕ) 
 found-no h p k n es is = subst (λ (o : Option Data). ValueIs o None) (ap (find bytewise k) (sym is) ∙ find-along h p k n 0 es) tt
 
 pub found-empty : (h : List ℕ → List ℕ) (p : HamtShape) (k : List ℕ) (slots : List TrieSlot) (es : List (List ℕ × Data)) (t : Trail)
-    → IsTrailOf h p k slots es t → Shows S.Empty (sized p.bucket empty (along h p k (length (trail_blocks t) + 1) 0 es)) → ValueIs (find bytewise k es) None
+    → IsTrailOf h p k slots es t → IsReadOf S.Empty (sized p.bucket empty (along h p k (length (trail_blocks t) + 1) 0 es)) → ValueIs (find bytewise k es) None
 found-empty h p k slots es t trail is = found-no h p k (length (trail_blocks t) + 1) es (not-empty p.bucket _ trail.ends is)
 
 pub found-child : (h : List ℕ → List ℕ) (p : HamtShape) (k : List ℕ) (slots : List TrieSlot) (es : List (List ℕ × Data)) (t : Trail) (id : BlockId)
-    → IsTrailOf h p k slots es t → Shows (S.Child id) (sized p.bucket empty (along h p k (length (trail_blocks t) + 1) 0 es)) → ValueIs (find bytewise k es) None
+    → IsTrailOf h p k slots es t → IsReadOf (S.Child id) (sized p.bucket empty (along h p k (length (trail_blocks t) + 1) 0 es)) → ValueIs (find bytewise k es) None
 found-child h p k slots es t id trail is = found-no h p k (length (trail_blocks t) + 1) es (not-child p.bucket _ id trail.ends is)
 
 -- the test of two hashes, level by level

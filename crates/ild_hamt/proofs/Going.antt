@@ -22,7 +22,7 @@ use Rattle.ild_data.specs.declared.id.BlockId.{BlockId}
 use Rattle.ild_node_slots.specs.Views.{HasSlots}
 use Rattle.ild_node_slots.specs.declared.view.NodeView.{NodeView}
 use Rattle.ild_node_slots.specs.declared.view.NodeSlot.{NodeSlot}
-use Rattle.ild_hamt_climb.specs.Seen.{Shows}
+use Rattle.ild_hamt_climb.specs.Seen.{IsReadOf}
 use Rattle.ild_hamt.specs.Ends.{EndsAt, hashes_of, is_full}
 use Rattle.ild_cbor.specs.declared.why.BlockWhy.{BlockWhy}
 use Rattle.ild_cbor.specs.declared.why.BlockWhy.TheVariants.{Missing, Cbor, Shape as NoNode}
@@ -401,9 +401,9 @@ going-unnamed h p key hash slots m bs depth n wide same going =
 
 pub going-done : (h : List ℕ → List ℕ) (p : HamtShape) (key hash : List ℕ) (slots : List TrieSlot) (m : Moment) (depth : ℕ) (t : Trail) (n : Moment) (x : NodeSlot)
     → 3 ≤ p.width → hash ≡ h key → Going p hash slots m (trail_blocks t) depth None n → t.shape ≡ p → t.key ≡ key → t.hash ≡ hash → t.depth ≡ depth
-    → ((last : List TrieSlot) → EndsAt p slots (trail_blocks t) last → depth ≡ length (trail_blocks t) → depth < trie_levels p → Shows x (slot_for p hash depth last))
-    → ((y : TrieSlot) → Shows x y → t.exhausted ≡ is_full h p key hash (depth + 1) (bucket_entries y))
-    → ((y : TrieSlot) → Shows x y → t.others.items ≡ hashes_of h (without key (bucket_entries y)))
+    → ((last : List TrieSlot) → EndsAt p slots (trail_blocks t) last → depth ≡ length (trail_blocks t) → depth < trie_levels p → IsReadOf x (slot_for p hash depth last))
+    → ((y : TrieSlot) → IsReadOf x y → t.exhausted ≡ is_full h p key hash (depth + 1) (bucket_entries y))
+    → ((y : TrieSlot) → IsReadOf x y → t.others.items ≡ hashes_of h (without key (bucket_entries y)))
     → Descends h p key slots m (Ok t) n
 going-done h p key hash slots m depth t n x wide same going shaped named hashed deep stands full others =
     let g = subst (λ (x : List ℕ). Going p x slots m (trail_blocks t) depth None n) same going in
@@ -423,7 +423,7 @@ going-done h p key hash slots m depth t n x wide same going shaped named hashed 
 
 pub stands-at : (p : HamtShape) (root : NodeView) (x : NodeSlot) (hash : List ℕ) (depth : ℕ) (slots : List TrieSlot) (cs bs : List (List ℕ))
     → cs ≡ bs → HasSlots p root slots
-    → ((ss last : List TrieSlot) → HasSlots p root ss → EndsAt p ss cs last → depth ≡ length cs → depth < trie_levels p → Shows x (slot_for p hash depth last))
-    → (last : List TrieSlot) → EndsAt p slots bs last → depth ≡ length bs → depth < trie_levels p → Shows x (slot_for p hash depth last)
+    → ((ss last : List TrieSlot) → HasSlots p root ss → EndsAt p ss cs last → depth ≡ length cs → depth < trie_levels p → IsReadOf x (slot_for p hash depth last))
+    → (last : List TrieSlot) → EndsAt p slots bs last → depth ≡ length bs → depth < trie_levels p → IsReadOf x (slot_for p hash depth last)
 stands-at p root x hash depth slots cs bs read has reads =
-    subst (λ (ds : List (List ℕ)). (last : List TrieSlot) → EndsAt p slots ds last → depth ≡ length ds → depth < trie_levels p → Shows x (slot_for p hash depth last)) read (λ last. reads slots last has)
+    subst (λ (ds : List (List ℕ)). (last : List TrieSlot) → EndsAt p slots ds last → depth ≡ length ds → depth < trie_levels p → IsReadOf x (slot_for p hash depth last)) read (λ last. reads slots last has)

@@ -19,7 +19,7 @@ use Rattle.ild_data.specs.Trie.{TrieSlot, empty, bucket, child, bucket_entries}
 use Rattle.ild_data.specs.declared.id.BlockId.{BlockId}
 use Rattle.ild_node_slots.specs.Views.{EntryIs, HasEntries, ValueIn, bucket_node}
 use Rattle.ild_node_slots.specs.declared.view.NodeSlot.TheVariants as S
-use Rattle.ild_hamt_climb.specs.Seen.{Shows}
+use Rattle.ild_hamt_climb.specs.Seen.{IsReadOf}
 use Rattle.ild_node_slots.specs.declared.bucket.Bucket.{Bucket}
 use Rattle.ild_node.specs.declared.keyed.Keyed.{Keyed}
 use Rattle.ild_node.specs.declared.row.Row.{Row}
@@ -110,7 +110,7 @@ full-others h p k hash depth es others are = by (find bytewise k es) refl
     by (Some d) found = refl
     by None found = ap (λ n. nat_le p.bucket n) (ap (λ xs. length (agreeing_hashes p hash depth xs)) (are ∙ ap (hashes_of h) (without-missing k es found)) ∙ length-agreeing h p hash depth es)
 
-pub missing-found : (b : Bucket) (s : TrieSlot) (key : List ℕ) (n : Node) → Shows (S.Bucket b) s → ((es : List (List ℕ × Data)) → HasEntries b es → ValueIn (bucket_node b) es key (find bytewise key es) (Some n))
+pub missing-found : (b : Bucket) (s : TrieSlot) (key : List ℕ) (n : Node) → IsReadOf (S.Bucket b) s → ((es : List (List ℕ × Data)) → HasEntries b es → ValueIn (bucket_node b) es key (find bytewise key es) (Some n))
     → false ≡ not (is_some (find bytewise key (bucket_entries s)))
 missing-found b empty key n shows finds = absurd shows
 missing-found b (child c) key n shows finds = absurd shows
@@ -120,7 +120,7 @@ missing-found b (bucket es) key n shows finds = by (find bytewise key es) (finds
     by None is = absurd is
     by (Some d) is = refl
 
-pub missing-none : (b : Bucket) (s : TrieSlot) (key : List ℕ) → Shows (S.Bucket b) s → ((es : List (List ℕ × Data)) → HasEntries b es → ValueIn (bucket_node b) es key (find bytewise key es) None)
+pub missing-none : (b : Bucket) (s : TrieSlot) (key : List ℕ) → IsReadOf (S.Bucket b) s → ((es : List (List ℕ × Data)) → HasEntries b es → ValueIn (bucket_node b) es key (find bytewise key es) None)
     → true ≡ not (is_some (find bytewise key (bucket_entries s)))
 missing-none b empty key shows finds = absurd shows
 missing-none b (child c) key shows finds = absurd shows
@@ -130,12 +130,12 @@ missing-none b (bucket es) key shows finds = by (find bytewise key es) (finds es
     by None is = refl
     by (Some d) is = absurd is
 
-pub missing-empty : (s : TrieSlot) (key : List ℕ) → Shows S.Empty s → true ≡ not (is_some (find bytewise key (bucket_entries s)))
+pub missing-empty : (s : TrieSlot) (key : List ℕ) → IsReadOf S.Empty s → true ≡ not (is_some (find bytewise key (bucket_entries s)))
 missing-empty empty key shows = refl
 missing-empty (bucket es) key shows = absurd shows
 missing-empty (child c) key shows = absurd shows
 
-pub missing-child : (id : BlockId) (s : TrieSlot) (key : List ℕ) → Shows (S.Child id) s → true ≡ not (is_some (find bytewise key (bucket_entries s)))
+pub missing-child : (id : BlockId) (s : TrieSlot) (key : List ℕ) → IsReadOf (S.Child id) s → true ≡ not (is_some (find bytewise key (bucket_entries s)))
 missing-child id empty key shows = absurd shows
 missing-child id (bucket es) key shows = absurd shows
 missing-child id (child c) key shows = refl

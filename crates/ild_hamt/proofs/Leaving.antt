@@ -30,7 +30,7 @@ use Rattle.ild_hamt.specs.Ends.{hashes_of}
 use Rattle.ild_hamt.proofs.Hashed.{others-put}
 use Rattle.ild_hamt.specs.Removing.{Removes}
 use Rattle.ild_hamt_climb.specs.Rewriting.{Rewrites, ClimbState}
-use Rattle.ild_hamt_climb.specs.Seen.{Shows}
+use Rattle.ild_hamt_climb.specs.Seen.{IsReadOf}
 use Rattle.ild_hamt.specs.declared.trail.Trail.{Trail}
 use Rattle.ild_hamt_climb.proofs.Differing.{along-without}
 use Rattle.ild_hamt.proofs.Fulling.{end-bucket, full-is}
@@ -124,7 +124,7 @@ rest-state p h k slots es rows t s plan trail is slot none =
 -- ---- what was read at the end
 
 pub others-bucket : {E : Type 0} (p : HamtShape) (r : Result (List (List ℕ × Data)) E) (h : List ℕ → List ℕ) (k key : List ℕ) (slots : List TrieSlot) (es : List (List ℕ × Data)) (t : Trail) (b : Bucket) → IsTrailOf h p k slots es t → key ≡ k
-    → Shows (S.Bucket b) (sized p.bucket empty (along h p k (length (trail_blocks t) + 1) 0 es)) → ((gs : List (List ℕ × Data)) → HasEntries b gs → IsInOrder gs → IfOk r (λ rows. rows ≡ without key gs))
+    → IsReadOf (S.Bucket b) (sized p.bucket empty (along h p k (length (trail_blocks t) + 1) 0 es)) → ((gs : List (List ℕ × Data)) → HasEntries b gs → IsInOrder gs → IfOk r (λ rows. rows ≡ without key gs))
     → IfOk r (λ rows. rows ≡ without k (along h p k (length (trail_blocks t) + 1) 0 es))
 others-bucket p r h k key slots es t b trail named shows reads =
     let gs : List (List ℕ × Data) = along h p k (length (trail_blocks t) + 1) 0 es in
@@ -145,14 +145,14 @@ value-none whole es key None is = refl
 value-none whole es key (Some d) is = absurd is
 
 pub bucket-found : (p : HamtShape) (h : List ℕ → List ℕ) (k key : List ℕ) (slots : List TrieSlot) (es : List (List ℕ × Data)) (t : Trail) (b : Bucket) (n : Node) → IsTrailOf h p k slots es t → key ≡ k
-    → Shows (S.Bucket b) (sized p.bucket empty (along h p k (length (trail_blocks t) + 1) 0 es)) → ((gs : List (List ℕ × Data)) → HasEntries b gs → ValueIn (bucket_node b) gs key (find bytewise key gs) (Some n))
+    → IsReadOf (S.Bucket b) (sized p.bucket empty (along h p k (length (trail_blocks t) + 1) 0 es)) → ((gs : List (List ℕ × Data)) → HasEntries b gs → ValueIn (bucket_node b) gs key (find bytewise key gs) (Some n))
     → IsSome (find bytewise k (along h p k (length (trail_blocks t) + 1) 0 es))
 bucket-found p h k key slots es t b n trail named shows finds =
     let gs : List (List ℕ × Data) = along h p k (length (trail_blocks t) + 1) 0 es in
     subst (λ (q : List ℕ). IsSome (find bytewise q gs)) named (value-some (bucket_node b) gs key (find bytewise key gs) n (finds gs (end-bucket p.bucket gs b trail.ends shows)))
 
 pub bucket-missing : (p : HamtShape) (h : List ℕ → List ℕ) (k key : List ℕ) (slots : List TrieSlot) (es : List (List ℕ × Data)) (t : Trail) (b : Bucket) → IsTrailOf h p k slots es t → key ≡ k
-    → Shows (S.Bucket b) (sized p.bucket empty (along h p k (length (trail_blocks t) + 1) 0 es)) → ((gs : List (List ℕ × Data)) → HasEntries b gs → ValueIn (bucket_node b) gs key (find bytewise key gs) None)
+    → IsReadOf (S.Bucket b) (sized p.bucket empty (along h p k (length (trail_blocks t) + 1) 0 es)) → ((gs : List (List ℕ × Data)) → HasEntries b gs → ValueIn (bucket_node b) gs key (find bytewise key gs) None)
     → find bytewise k (along h p k (length (trail_blocks t) + 1) 0 es) ≡ None
 bucket-missing p h k key slots es t b trail named shows finds =
     let gs : List (List ℕ × Data) = along h p k (length (trail_blocks t) + 1) 0 es in

@@ -33,7 +33,7 @@ use Rattle.ild_bulk.specs.Children.{Follows}
 use Rattle.ild_bulk.specs.Planned.{PlansSlot, planned, slot_plan}
 use Rattle.ild_bulk.proofs.Childs.{child_of, follows_slot, node-over, plan-follows}
 use Rattle.ild_hamt_climb.specs.Planning.{Rising, IsPlanned, SpellsNode}
-use Rattle.ild_hamt_climb.specs.Seen.{Shows}
+use Rattle.ild_hamt_climb.specs.Seen.{IsReadOf}
 use Rattle.ild_hamt_climb.specs.Way.{Leads, slot_for}
 use Rattle.ild_hamt_climb.proofs.Chain.{slot-chain}
 use Rattle.ild_hamt_climb.proofs.Planning.{child-more, over-more}
@@ -93,41 +93,41 @@ descended-along p root h k slots m t n has descends =
 
 -- what was read there
 pub along-read : (p : HamtShape) (root : NodeView) (t : Trail) (h : List ℕ → List ℕ) (k : List ℕ) (slots last : List TrieSlot) (blocks : List (List ℕ)) (x : NodeSlot) → IsTrailAlong p root t h k slots last → blocks ≡ trail_blocks t
-    → ((ss there : List TrieSlot) → HasSlots p root ss → EndsAt p ss blocks there → t.depth ≡ length blocks → t.depth < trie_levels p → Shows x (slot_for p t.hash t.depth there))
-    → Shows x (slot_for p (h k) (length (trail_blocks t)) last)
+    → ((ss there : List TrieSlot) → HasSlots p root ss → EndsAt p ss blocks there → t.depth ≡ length blocks → t.depth < trie_levels p → IsReadOf x (slot_for p t.hash t.depth there))
+    → IsReadOf x (slot_for p (h k) (length (trail_blocks t)) last)
 along-read p root t h k slots last blocks x along same reads =
     let at = reads slots last along.has (subst (λ (bs : List (List ℕ)). EndsAt p slots bs last) (sym same) (leads-end p (h k) 0 slots (trail_blocks t) last along.leads)) (along.trail.depth ∙ ap length (sym same))
     (let lt = along.short in omega (arith, along.trail.depth)) in
-    subst (λ (s : TrieSlot). Shows x s) (λ i. slot_for p (along.trail.hash i) (along.trail.depth i) last) at
+    subst (λ (s : TrieSlot). IsReadOf x s) (λ i. slot_for p (along.trail.hash i) (along.trail.depth i) last) at
 
-pub others-read : {E : Type 0} (p : HamtShape) (r : Result (List (List ℕ × Data)) E) (k key : List ℕ) (b : Bucket) (s : TrieSlot) → IsSlot p s → key ≡ k → Shows (S.Bucket b) s
+pub others-read : {E : Type 0} (p : HamtShape) (r : Result (List (List ℕ × Data)) E) (k key : List ℕ) (b : Bucket) (s : TrieSlot) → IsSlot p s → key ≡ k → IsReadOf (S.Bucket b) s
     → ((gs : List (List ℕ × Data)) → HasEntries b gs → IsInOrder gs → IfOk r (λ rows. rows ≡ without key gs)) → IfOk r (λ rows. rows ≡ without k (bucket_entries s))
 others-read p r k key b empty form named shows reads = absurd shows
 others-read p r k key b (bucket es) form named shows reads = subst (λ (q : List ℕ). IfOk r (λ rows. rows ≡ without q es)) named (reads es shows form.0)
 others-read p r k key b (child id) form named shows reads = absurd shows
 
 pub along-others : {E : Type 0} (p : HamtShape) (r : Result (List (List ℕ × Data)) E) (root : NodeView) (t : Trail) (h : List ℕ → List ℕ) (k key : List ℕ) (slots last : List TrieSlot) (b : Bucket) → IsTrailAlong p root t h k slots last → key ≡ k
-    → Shows (S.Bucket b) (slot_for p (h k) (length (trail_blocks t)) last) → ((gs : List (List ℕ × Data)) → HasEntries b gs → IsInOrder gs → IfOk r (λ rows. rows ≡ without key gs))
+    → IsReadOf (S.Bucket b) (slot_for p (h k) (length (trail_blocks t)) last) → ((gs : List (List ℕ × Data)) → HasEntries b gs → IsInOrder gs → IfOk r (λ rows. rows ≡ without key gs))
     → IfOk r (λ rows. rows ≡ without k (entries_at_end h p k (trail_blocks t) last))
 along-others p r root t h k key slots last b along named shows reads = others-read p r k key b _ (end-form p root t h k slots last along) named shows reads
 
-pub empty-entries : (s : TrieSlot) → Shows S.Empty s → [] ≡ bucket_entries s
+pub empty-entries : (s : TrieSlot) → IsReadOf S.Empty s → [] ≡ bucket_entries s
 empty-entries empty shows = refl
 empty-entries (bucket es) shows = absurd shows
 empty-entries (child id) shows = refl
 
-pub child-entries : (s : TrieSlot) (id : _) → Shows (S.Child id) s → [] ≡ bucket_entries s
+pub child-entries : (s : TrieSlot) (id : _) → IsReadOf (S.Child id) s → [] ≡ bucket_entries s
 child-entries empty id shows = absurd shows
 child-entries (bucket es) id shows = absurd shows
 child-entries (child c) id shows = refl
 
-pub along-found : (k key : List ℕ) (b : Bucket) (n : Node) (s : TrieSlot) → key ≡ k → Shows (S.Bucket b) s → ((gs : List (List ℕ × Data)) → HasEntries b gs → ValueIn (bucket_node b) gs key (find bytewise key gs) (Some n))
+pub along-found : (k key : List ℕ) (b : Bucket) (n : Node) (s : TrieSlot) → key ≡ k → IsReadOf (S.Bucket b) s → ((gs : List (List ℕ × Data)) → HasEntries b gs → ValueIn (bucket_node b) gs key (find bytewise key gs) (Some n))
     → IsSome (find bytewise k (bucket_entries s))
 along-found k key b n empty named shows finds = absurd shows
 along-found k key b n (bucket es) named shows finds = subst (λ (q : List ℕ). IsSome (find bytewise q es)) named (value-some (bucket_node b) es key (find bytewise key es) n (finds es shows))
 along-found k key b n (child id) named shows finds = absurd shows
 
-pub along-missing : (k key : List ℕ) (b : Bucket) (s : TrieSlot) → key ≡ k → Shows (S.Bucket b) s → ((gs : List (List ℕ × Data)) → HasEntries b gs → ValueIn (bucket_node b) gs key (find bytewise key gs) None)
+pub along-missing : (k key : List ℕ) (b : Bucket) (s : TrieSlot) → key ≡ k → IsReadOf (S.Bucket b) s → ((gs : List (List ℕ × Data)) → HasEntries b gs → ValueIn (bucket_node b) gs key (find bytewise key gs) None)
     → find bytewise k (bucket_entries s) ≡ None
 along-missing k key b empty named shows finds = absurd shows
 along-missing k key b (bucket es) named shows finds = subst (λ (q : List ℕ). find bytewise q es ≡ None) named (value-none (bucket_node b) es key (find bytewise key es) (finds es shows))

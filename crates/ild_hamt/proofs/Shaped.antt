@@ -11,7 +11,7 @@ use Rattle.ild_edges.specs.Store.{Moment}
 use Rattle.ild_node_slots.specs.declared.fault.HamtFault.{HamtFault}
 use Rattle.ild_node_slots.specs.declared.view.NodeView.{NodeView}
 use Rattle.ild_hamt.specs.Descending.{trail_blocks}
-use Rattle.ild_hamt.specs.Edits.{Edits, IsTrailAlong, RemovesAlong, entries_at_end, is_full_at_end}
+use Rattle.ild_hamt.specs.Edits.{SetsAlong, IsTrailAlong, RemovesAlong, entries_at_end, is_full_at_end}
 use Rattle.ild_hamt.specs.Removing.{Removes}
 use Rattle.ild_hamt.specs.Rewriting.{IsTrailFrom}
 use Rattle.ild_hamt.specs.Setting.{Sets}
@@ -25,10 +25,10 @@ module _ (h : List ℕ → List ℕ) (p : HamtShape) (root : NodeView) (t : Trai
       subst (λ (q : HamtShape). IsTrailFrom q root t h k slots es → is_some (node_of h q (trie_levels q) 0 (put bytewise k v es)) ≡ true → Sets h q k v es m r n) from.trail.shape sets from
 
   pub edits-at : (slots last : List TrieSlot)
-      → (IsTrailAlong t.shape root t h k slots last → Edits t.shape (trail_blocks t) (is_full_at_end h t.shape k (trail_blocks t) last) m r n)
-      → IsTrailAlong p root t h k slots last → Edits p (trail_blocks t) (is_full_at_end h p k (trail_blocks t) last) m r n
+      → (IsTrailAlong t.shape root t h k slots last → SetsAlong t.shape (trail_blocks t) (is_full_at_end h t.shape k (trail_blocks t) last) m r n)
+      → IsTrailAlong p root t h k slots last → SetsAlong p (trail_blocks t) (is_full_at_end h p k (trail_blocks t) last) m r n
   edits-at slots last edits leads =
-      subst (λ (q : HamtShape). IsTrailAlong q root t h k slots last → Edits q (trail_blocks t) (is_full_at_end h q k (trail_blocks t) last) m r n) leads.trail.shape edits leads
+      subst (λ (q : HamtShape). IsTrailAlong q root t h k slots last → SetsAlong q (trail_blocks t) (is_full_at_end h q k (trail_blocks t) last) m r n) leads.trail.shape edits leads
 
   pub removes-at : (slots : List TrieSlot) (es : List (List ℕ × Data)) → (IsTrailFrom t.shape root t h k slots es → Removes h t.shape k es m r n) → IsTrailFrom p root t h k slots es → Removes h p k es m r n
   removes-at slots es removes from = subst (λ (q : HamtShape). IsTrailFrom q root t h k slots es → Removes h q k es m r n) from.trail.shape removes from

@@ -58,7 +58,7 @@ EditAnswer p full plan m (Err e) n = PutsAll m plan (Err e) n
 
 -- an edit along a trail of these blocks: nodes are planned, at most one for each level beneath the root. Each block that was added is
 -- one of them, and has all its children held where the blocks of the trail had theirs held
-pub record Edits (p : HamtShape) (bs : List (List ℕ)) (full : Bool) (m : Moment) (result : Result (List ℕ) HamtFault) (n : Moment) : Type 0 where
+pub record SetsAlong (p : HamtShape) (bs : List (List ℕ)) (full : Bool) (m : Moment) (result : Result (List ℕ) HamtFault) (n : Moment) : Type 0 where
   pub plan : List (List ℕ)
   pub nodes : AllByRecursion SpellsNode plan
   pub few : length plan < trie_levels p
@@ -72,7 +72,7 @@ pub record Edits (p : HamtShape) (bs : List (List ℕ)) (full : Bool) (m : Momen
 -- the removal of a key from among the entries at the end: it isn't there, and nothing is done, or such an edit
 abbrev pub RemovesAlong : HamtShape → List ℕ → List (List ℕ × Data) → List (List ℕ) → Moment → Result (List ℕ) HamtFault → Moment → Type 0
 RemovesAlong p k es bs m (Err NoKey) n = (find bytewise k es ≡ None) × (n ≡ m)
-RemovesAlong p k es bs m result n = IsSome (find bytewise k es) × Edits p bs false m result n
+RemovesAlong p k es bs m result n = IsSome (find bytewise k es) × SetsAlong p bs false m result n
 
 -- the same from a slot at the end on, with what is planned beneath it
 pub record EditsFrom (p : HamtShape) (bs : List (List ℕ)) (s : TrieSlot) (begun : List (List ℕ)) (m : Moment) (result : Result (List ℕ) HamtFault) (n : Moment) : Type 0 where

@@ -2,7 +2,7 @@
 use Rattle.std.specs.Prelude.{◌≡◌, ℕ, List, Option, Some, length, slice_get}
 use Rattle.std.specs.FinMap.{find}
 use Rattle.std.specs.Option.{ForSome}
-use Rattle.ild_cbor.specs.Nodes.{Stands}
+use Rattle.ild_cbor.specs.Nodes.{HasData}
 use Rattle.ild_cbor.specs.declared.node.Node.{Node}
 use Rattle.ild_data.specs.ByteOrder.{bytewise}
 use Rattle.ild_data.specs.Data.{Data}
@@ -22,10 +22,10 @@ pub record IsItemIn (s : TrieSlot) (key : List ℕ) (item : Node) : Type 0 where
   pub place : ℕ
   pub value : Data
   pub entry : slice_get entries place ≡ Some (key, value)
-  pub stands : Stands item value
+  pub stands : HasData item value
 
 -- in a node of these slots at a depth
-pub record Finds (p : HamtShape) (hash : List ℕ) (depth : ℕ) (key : List ℕ) (slots : List TrieSlot) (result : Option Node) : Type 0 where
+pub record FoundInNode (p : HamtShape) (hash : List ℕ) (depth : ℕ) (key : List ℕ) (slots : List TrieSlot) (result : Option Node) : Type 0 where
   pub value : ValueIs (find bytewise key (bucket_entries (slot_for p hash depth slots))) result
   pub there : ForSome result (λ item. IsItemIn (slot_for p hash depth slots) key item)
 
@@ -33,4 +33,4 @@ pub record Finds (p : HamtShape) (hash : List ℕ) (depth : ℕ) (key : List ℕ
 abbrev pub FindsAtEnd : Trail → NodeView → Option Node → Type 0
 FindsAtEnd t root result =
     (h : List ℕ → List ℕ) (k : List ℕ) (slots last : List TrieSlot) → IsTrailAlong (trail_shape t) root t h k slots last
-    → Finds (trail_shape t) (h k) (length (trail_blocks t)) k last result
+    → FoundInNode (trail_shape t) (h k) (length (trail_blocks t)) k last result

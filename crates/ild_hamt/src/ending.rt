@@ -6,7 +6,7 @@ ghost use Rattle.ild_data.specs.Trie.{TrieSlot, bucket_entries};
 ghost use Rattle.ild_data.specs.TrieShape.{trie_levels, index};
 ghost use Rattle.ild_node_slots.specs.Views.{HasSlots};
 ghost use Rattle.ild_hamt_climb.specs.NodeBytes.{IsNodeBytes};
-ghost use Rattle.ild_hamt_climb.specs.Seen.{Shows};
+ghost use Rattle.ild_hamt_climb.specs.Seen.{IsReadOf};
 ghost use Rattle.ild_hamt_climb.specs.Way.{slot_for};
 ghost use Rattle.ild_hamt.specs.Ends.{EndsAt, agree, agreeing_hashes, hashes_of, is_full};
 
@@ -22,7 +22,7 @@ pub(crate) fn slot_at<'b>(
     depth: u32,
 ) -> NodeSlot<'b>
     requires { depth < trie_levels shape }
-    ensures { (slots : List TrieSlot) → HasSlots shape view.entry slots → Shows result (slot_for shape hash.now depth slots) }
+    ensures { (slots : List TrieSlot) → HasSlots shape view.entry slots → IsReadOf result (slot_for shape hash.now depth slots) }
 {
     view.slot(index_of(hash, depth, shape))
 }
@@ -37,7 +37,7 @@ pub(crate) fn end_slot<'b>(
 ) -> NodeSlot<'b>
     requires { All (IsNodeBytes shape) blocks.now }
     ensures { (slots last : List TrieSlot) → HasSlots shape root.entry slots → EndsAt shape slots blocks.now last → depth ≡ length blocks.now
-        → depth < trie_levels shape → Shows result (slot_for shape hash.now depth last) }
+        → depth < trie_levels shape → IsReadOf result (slot_for shape hash.now depth last) }
 {
     if !has_level(shape, depth as usize) {
         return NodeSlot::Empty;
@@ -95,7 +95,7 @@ fn count(shape: HamtShape, hashes: &[[u8; 32]], hash: &[u8; 32], depth: u32) -> 
 
 // Whether a key is none of those in a slot.
 fn is_missing(slot: NodeSlot<'_>, key: &str) -> bool
-    ensures { (s : TrieSlot) → Shows slot.entry s → result ≡ not (is_some (find bytewise key.now (bucket_entries s))) }
+    ensures { (s : TrieSlot) → IsReadOf slot.entry s → result ≡ not (is_some (find bytewise key.now (bucket_entries s))) }
 {
     match slot {
         NodeSlot::Bucket(bucket) => match bucket.find(key) {
@@ -116,7 +116,7 @@ pub(crate) fn is_full(
     hash: &[u8; 32],
     depth: u32,
 ) -> bool
-    ensures { (h : List ℕ → List ℕ) (s : TrieSlot) → Shows slot.entry s → others.now ≡ hashes_of h (without key.now (bucket_entries s))
+    ensures { (h : List ℕ → List ℕ) (s : TrieSlot) → IsReadOf slot.entry s → others.now ≡ hashes_of h (without key.now (bucket_entries s))
         → result ≡ is_full h shape key.now hash.now depth (bucket_entries s) }
 {
     let many = count(shape, others, hash, depth);

@@ -9,7 +9,7 @@ ghost use Rattle.ild_node_slots.specs.Views.{HasEntries};
 ghost use Rattle.ild_bulk.specs.Keyed.{AreKeyed};
 ghost use Rattle.ild_hamt.specs.Ends.{hashes_of};
 ghost use Rattle.ild_hamt_climb.specs.inside.Gathering.{some_entry};
-ghost use Rattle.ild_hamt_climb.specs.Seen.{Shows};
+ghost use Rattle.ild_hamt_climb.specs.Seen.{IsReadOf};
 
 use ild_data::KeyHash;
 use ild_node::{Bucket, Keyed, NodeSlot, Row};
@@ -67,7 +67,7 @@ pub(crate) fn other_hashes<H: KeyHash>(
     key: &str,
     keys: &H,
 ) -> Result<Vec<[u8; 32]>, AllocError>
-    ensures { (s : TrieSlot) → Shows slot.entry s → IfOk result (λ hashes. hashes.items ≡ hashes_of H.hash_of (without key.now (bucket_entries s))) }
+    ensures { (s : TrieSlot) → IsReadOf slot.entry s → IfOk result (λ hashes. hashes.items ≡ hashes_of H.hash_of (without key.now (bucket_entries s))) }
 {
     match slot {
         NodeSlot::Bucket(bucket) => bucket_hashes(alloc, bucket, key, keys),

@@ -13,7 +13,7 @@ ghost use Rattle.ild_hamt.specs.Ends.{EndsAt, hashes_of};
 ghost use Rattle.ild_hamt_climb.specs.Known.{SomeNode, SomeSlot};
 ghost use Rattle.ild_hamt_climb.specs.NodeBytes.{IsNodeBytes};
 ghost use Rattle.ild_hamt_climb.specs.Rewriting.{ClimbState, DiffersAt, Rewrites};
-ghost use Rattle.ild_hamt_climb.specs.Seen.{Shows};
+ghost use Rattle.ild_hamt_climb.specs.Seen.{IsReadOf};
 ghost use Rattle.ild_hamt_climb.specs.Way.{IsRootOf, slot_for};
 
 use crate::ending::slot_at;
@@ -51,7 +51,7 @@ pub(crate) fn end_again<'b>(
     requires { All (IsNodeBytes shape) blocks.now }
     ensures known { ∥ SomeSlot result ∥₁ }
     ensures shows { (slots last : List TrieSlot) → HasSlots shape root.entry slots → EndsAt shape slots blocks.now last → depth ≡ length blocks.now
-        → depth < trie_levels shape → Shows result (slot_for shape hash.now depth last) }
+        → depth < trie_levels shape → IsReadOf result (slot_for shape hash.now depth last) }
 {
     if !has_level(shape, depth as usize) {
         return NodeSlot::Empty;

@@ -34,13 +34,13 @@ impl Trail {
     ghost use Rattle.ild_data.specs.declared.hamt_shape.HamtShape.{HamtShape};
     ghost use Rattle.ild_data.specs.TrieShape.{trie_levels};
     ghost use Rattle.ild_hamt_trie.specs.Way.{along};
-    ghost use Rattle.ild_cbor.specs.Nodes.{Stands};
+    ghost use Rattle.ild_cbor.specs.Nodes.{HasData};
     ghost use Rattle.ild_node.specs.Rows.{NestsIn, deepest_value};
     ghost use Rattle.ild_node_slots.specs.Views.{HasSlots};
     ghost use Rattle.ild_hamt.specs.Descending.{IsTrail, IsTrailOf, trail_blocks, trail_shape};
     ghost use Rattle.ild_hamt.specs.Found.{FindsAtEnd};
     ghost use Rattle.ild_hamt.specs.Given.{GivesWay};
-    ghost use Rattle.ild_hamt.specs.Edits.{CausedBy, Edits, IsTrailAlong, RemovesAlong, entries_at_end, is_full_at_end};
+    ghost use Rattle.ild_hamt.specs.Edits.{CausedBy, SetsAlong, IsTrailAlong, RemovesAlong, entries_at_end, is_full_at_end};
     ghost use Rattle.ild_hamt.specs.Removing.{Removes, RestIs};
     ghost use Rattle.ild_edges.specs.Told.{BothTold};
     ghost use Rattle.ild_hamt.specs.Rewriting.{HoldsAfter, IsTrailFrom};
@@ -118,10 +118,10 @@ impl Trail {
         store: &mut K,
     ) -> Result<Octets, HamtFault>
         requires { NestsIn deepest_value val.now }
-        ensures sets { (h : List ℕ → List ℕ) (k : List ℕ) (v : Data) (slots : List TrieSlot) (es : List (List ℕ × Data)) → IsTrailFrom (trail_shape self) root.entry self h k slots es → Stands val.now v
+        ensures sets { (h : List ℕ → List ℕ) (k : List ℕ) (v : Data) (slots : List TrieSlot) (es : List (List ℕ × Data)) → IsTrailFrom (trail_shape self) root.entry self h k slots es → HasData val.now v
             → is_some (node_of h (trail_shape self) (trie_levels (trail_shape self)) 0 (put bytewise k v es)) ≡ true → Sets h (trail_shape self) k v es (K.moment store.old) result (K.moment store.new) }
-        ensures edits { (h : List ℕ → List ℕ) (k : List ℕ) (v : Data) (slots last : List TrieSlot) → IsTrailAlong (trail_shape self) root.entry self h k slots last → Stands val.now v
-            → Edits (trail_shape self) (trail_blocks self) (is_full_at_end h (trail_shape self) k (trail_blocks self) last) (K.moment store.old) result (K.moment store.new) }
+        ensures edits { (h : List ℕ → List ℕ) (k : List ℕ) (v : Data) (slots last : List TrieSlot) → IsTrailAlong (trail_shape self) root.entry self h k slots last → HasData val.now v
+            → SetsAlong (trail_shape self) (trail_blocks self) (is_full_at_end h (trail_shape self) k (trail_blocks self) last) (K.moment store.old) result (K.moment store.new) }
         ensures caused { CausedBy (K.moment store.old) result (K.moment store.new) }
         ensures gets { (K.moment store.new).gets ≡ (K.moment store.old).gets }
     {
@@ -175,18 +175,18 @@ impl Trail {
         store: &mut K,
     ) -> Result<Octets, HamtFault>
         requires { NestsIn deepest_value val.now }
-        ensures sets { (p : HamtShape) (k : List ℕ) (v : Data) (slots : List TrieSlot) (es : List (List ℕ × Data)) → IsTrailFrom p root.entry self H.hash_of k slots es → Stands val.now v
+        ensures sets { (p : HamtShape) (k : List ℕ) (v : Data) (slots : List TrieSlot) (es : List (List ℕ × Data)) → IsTrailFrom p root.entry self H.hash_of k slots es → HasData val.now v
             → is_some (node_of H.hash_of p (trie_levels p) 0 (put bytewise k v es)) ≡ true → Sets H.hash_of p k v es (K.moment store.old) result (K.moment store.new) }
         // Where the trie beneath the root was held, so is that beneath the answer; and each block that was added has its children held.
-        ensures held { (p : HamtShape) (k : List ℕ) (v : Data) (slots : List TrieSlot) (es : List (List ℕ × Data)) → IsTrailFrom p root.entry self H.hash_of k slots es → Stands val.now v
+        ensures held { (p : HamtShape) (k : List ℕ) (v : Data) (slots : List TrieSlot) (es : List (List ℕ × Data)) → IsTrailFrom p root.entry self H.hash_of k slots es → HasData val.now v
             → is_some (node_of H.hash_of p (trie_levels p) 0 (put bytewise k v es)) ≡ true
             → BothTold (K.moment store.old).blocks (K.moment store.new).blocks (HoldsAfter H.hash_of p es (put bytewise k v es) result) }
         // Each of the new nodes on the key's way was put, also one that was there before.
-        ensures gives { (p : HamtShape) (k : List ℕ) (v : Data) (slots : List TrieSlot) (es : List (List ℕ × Data)) → IsTrailFrom p root.entry self H.hash_of k slots es → Stands val.now v
+        ensures gives { (p : HamtShape) (k : List ℕ) (v : Data) (slots : List TrieSlot) (es : List (List ℕ × Data)) → IsTrailFrom p root.entry self H.hash_of k slots es → HasData val.now v
             → is_some (node_of H.hash_of p (trie_levels p) 0 (put bytewise k v es)) ≡ true → GivesWay H.hash_of p k (put bytewise k v es) result (K.moment store.new) }
         // Over every store, of whatever trie the nodes on the way are.
-        ensures edits { (p : HamtShape) (k : List ℕ) (v : Data) (slots last : List TrieSlot) → IsTrailAlong p root.entry self H.hash_of k slots last → Stands val.now v
-            → Edits p (trail_blocks self) (is_full_at_end H.hash_of p k (trail_blocks self) last) (K.moment store.old) result (K.moment store.new) }
+        ensures edits { (p : HamtShape) (k : List ℕ) (v : Data) (slots last : List TrieSlot) → IsTrailAlong p root.entry self H.hash_of k slots last → HasData val.now v
+            → SetsAlong p (trail_blocks self) (is_full_at_end H.hash_of p k (trail_blocks self) last) (K.moment store.old) result (K.moment store.new) }
         ensures caused { CausedBy (K.moment store.old) result (K.moment store.new) }
         ensures gets { (K.moment store.new).gets ≡ (K.moment store.old).gets }
     {

@@ -7,7 +7,7 @@ use Rattle.ild_data.specs.declared.hamt_shape.HamtShape.{HamtShape}
 use Rattle.ild_data.specs.Data.{Data, depth}
 use Rattle.ild_data.specs.Limits.{IsWithin}
 use Rattle.ild_data.specs.Trie.{TrieSlot, empty, bucket, child, elements_of, node_data}
-use Rattle.ild_cbor.specs.Nodes.{Stands}
+use Rattle.ild_cbor.specs.Nodes.{HasData}
 use Rattle.ild_cbor.specs.declared.node.Node.{Node}
 use Rattle.ild_cbor.proofs.Blocks.{one_tree_lem}
 use Rattle.ild_typed.specs.Nested.{TreeIn}
@@ -19,7 +19,7 @@ use Rattle.ild_node_slots.specs.declared.view.NodeSlot.{NodeSlot}
 use Rattle.ild_node_slots.specs.declared.view.NodeSlot.TheVariants as S
 use Rattle.ild_node.proofs.Standing.{all_left, all_right, elements_in, bucket_in}
 use Rattle.ild_hamt_climb.specs.Known.{SomeBucket, SomeSlot}
-use Rattle.ild_hamt_climb.specs.Seen.{Shows}
+use Rattle.ild_hamt_climb.specs.Seen.{IsReadOf}
 use Rattle.ild_hamt_climb.proofs.Shown.{slot-shows}
 
 elements_of-in : (slots : List TrieSlot) (i : ℕ) → AllByRecursion (TreeIn 94) (flat_map elements_of slots) → AllByRecursion (TreeIn 94) (elements_of (get_or slots i empty))
@@ -32,14 +32,14 @@ shallow-slot slots i es w is = bucket_in es (subst (λ (s : TrieSlot). AllByRecu
 
 -- ---- what was read
 
-slot-known : (slots : List TrieSlot) (i : ℕ) (r : NodeSlot) (s : TrieSlot) → IsWithin (node_data slots) → get_or slots i empty ≡ s → Shows r s → SomeSlot r
+slot-known : (slots : List TrieSlot) (i : ℕ) (r : NodeSlot) (s : TrieSlot) → IsWithin (node_data slots) → get_or slots i empty ≡ s → IsReadOf r s → SomeSlot r
 slot-known slots i S.Empty s w is shows = tt
 slot-known slots i (S.Bucket b) empty w is shows = absurd shows
 slot-known slots i (S.Bucket b) (bucket es) w is shows = record { es = es; has = shows; low = shallow-slot slots i es w is }
 slot-known slots i (S.Bucket b) (child c) w is shows = absurd shows
 slot-known slots i (S.Child id) s w is shows = tt
 
-pub some-slot : (p : HamtShape) (v : NodeView) (slots : List TrieSlot) (i : ℕ) (r : NodeSlot) → HasSlots p v slots → Shows r (get_or slots i empty) → SomeSlot r
+pub some-slot : (p : HamtShape) (v : NodeView) (slots : List TrieSlot) (i : ℕ) (r : NodeSlot) → HasSlots p v slots → IsReadOf r (get_or slots i empty) → SomeSlot r
 some-slot p v slots i r has shows = slot-known slots i r (get_or slots i empty) has.stands.within refl shows
 
 pub some-next : (p : HamtShape) (v : NodeView) (slots : List TrieSlot) (i : ℕ) (r : NodeSlot) → HasSlots p v slots → SlotIs v slots i r → SomeSlot r
@@ -47,7 +47,7 @@ some-next p v slots i r has is = some-slot p v slots i r has (slot-shows v slots
 
 -- ---- a value
 
-one-tree : (n : Node) (d e : Data) → Stands n d → Stands n e → d ≡ e
+one-tree : (n : Node) (d e : Data) → HasData n d → HasData n e → d ≡ e
 one-tree n d e p q = one_tree_lem _ _ _ _ d e p q
 
 shallow-at : (es : List (List ℕ × Data)) (i : ℕ) (e : List ℕ × Data) → AreShallow es → slice_get es i ≡ Some e → depth e.1 ≤ deepest_value
@@ -55,7 +55,7 @@ shallow-at [] i e all is = absurd cc
 shallow-at (f ∷ es) zero e all is = let same : f ≡ e = cc in subst (λ (x : List ℕ × Data). depth x.1 ≤ deepest_value) same all.0.nested
 shallow-at (f ∷ es) (suc i) e all is = shallow-at es i e all.1 is
 
-pub value-low : (b : Bucket) (some : SomeBucket b) (i : ℕ) (key : Bor (List ℕ)) (value : Node) (t : Data) → EntryIs b some.es i (slice_get some.es i) (Some (key, value)) → Stands value t → depth t ≤ deepest_value
+pub value-low : (b : Bucket) (some : SomeBucket b) (i : ℕ) (key : Bor (List ℕ)) (value : Node) (t : Data) → EntryIs b some.es i (slice_get some.es i) (Some (key, value)) → HasData value t → depth t ≤ deepest_value
 value-low b some i key value t is stands = by (slice_get some.es i) refl is
   where
     by : (o : Option (List ℕ × Data)) → slice_get some.es i ≡ o → EntryIs b some.es i o (Some (key, value)) → depth t ≤ deepest_value

@@ -2,7 +2,7 @@
 use Rattle.std.proofs.Common.{◌≡◌, ◌≢◌, ⊎_elim, ℕ, zero, suc, ◌+◌, ◌≤◌, ◌<◌, ◌==◌, ◌||◌, Bool, true, false, cond, not, List, [], ◌∷◌, ◌++◌, length, take, filter, Option, Some, None, refl, sym, ap, ◌∙◌, subst, arith}
 use Rattle.std.specs.Prelude.{T, nat_lt, slice_get, OnOk, Result}
 use Rattle.std.specs.Borrow.{Bor}
-use Rattle.ild_cbor.specs.Nodes.{Stands}
+use Rattle.ild_cbor.specs.Nodes.{HasData}
 use Rattle.ild_cbor.specs.declared.node.Node.{Node}
 use Rattle.ild_node_slots.specs.Views.{EntryIs}
 use Rattle.ild_node_slots.specs.declared.bucket.Bucket.{Bucket}
@@ -209,7 +209,7 @@ other-same b es i (Some e) key value k rows is same =
     sym (ap (λ c. put_each (cond (not c) (e ∷ []) []) rows) itself)
 
 pub other-apart : {E : Type 0} (r : Result (Unit {0}) E) (b : Bucket) (es : List (List ℕ × Data)) (i : ℕ) (o : Option (List ℕ × Data)) (key : Bor (List ℕ)) (value : Node) (k : List ℕ) (rows new : List (List ℕ × Data))
-    → EntryIs b es i o (Some (key, value)) → key.now ≢ k → ((t : Data) → Stands value t → OnOk r (new ≡ put bytewise key.now t rows)) → OnOk r (new ≡ put_each (without k (some_entry o)) rows)
+    → EntryIs b es i o (Some (key, value)) → key.now ≢ k → ((t : Data) → HasData value t → OnOk r (new ≡ put bytewise key.now t rows)) → OnOk r (new ≡ put_each (without k (some_entry o)) rows)
 other-apart r b es i None key value k rows new is apart puts = absurd is
 other-apart r b es i (Some e) key value k rows new is apart puts =
     let other : eq_by_cmp bytewise k e.0 ≡ false = other-key k e.0 (eq_by_cmp bytewise k e.0) refl (λ same. apart (is.0 ∙ sym same)) in

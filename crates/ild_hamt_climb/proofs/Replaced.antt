@@ -12,7 +12,7 @@ use Rattle.ild_data.specs.Spell.{spell, spell_link, cid_of}
 use Rattle.ild_data.specs.Trie.{TrieSlot, empty, bucket, child, is_used, map_of, elements_of, node_data}
 use Rattle.ild_data.proofs.Lists.{items_list-items_of}
 use Rattle.ild_cbor.specs.Block.{IsBlockOf}
-use Rattle.ild_cbor.specs.Nodes.{IsRoot, Stands}
+use Rattle.ild_cbor.specs.Nodes.{IsRoot, HasData}
 use Rattle.ild_cbor.specs.Span.{item_of}
 use Rattle.ild_cbor.specs.declared.node.Node.{Node}
 use Rattle.ild_typed.specs.Nested.{BlockIn, TreeIn}
@@ -145,6 +145,6 @@ link_spelled p id b long all is = record { tree = link (cid_of id); is = refl; s
 pub block_is : (b : List ℕ) (e : Data) → TreeIn deepest e → b ≡ spell e → length b ≤ longest_block → IsBlockOf b e
 block_is b e fits is short = record { within = record { tree = fits.tree; nested = fits.nested; sized = subst (λ (x : List ℕ). length x ≤ longest_block) is short }; spelled = is }
 
-pub item_replaced : (old new : Node) (bs b : List ℕ) → length bs ≤ longest_block → ((x : Data) → IsBlockOf bs x → IsRoot new bs x) → ((x : Data) → Stands new x → Splices old (replace x) (Ok b))
+pub item_replaced : (old new : Node) (bs b : List ℕ) → length bs ≤ longest_block → ((x : Data) → IsBlockOf bs x → IsRoot new bs x) → ((x : Data) → HasData new x → Splices old (replace x) (Ok b))
     → (t d e : Data) (q : List TreeStep) → IsAt old t q d → TreeIn deepest e → bs ≡ spell e → b ≡ spell (changed q (replace e) t)
 item_replaced old new bs b short root made t d e q at fits is = ((made e (root e (block_is bs e fits is short)).stands).makes t d q at).0

@@ -11,7 +11,7 @@ use Rattle.ild_data.specs.Data.{Data}
 use Rattle.ild_data.specs.Spell.{spell}
 use Rattle.ild_data.specs.Trie.{TrieSlot, empty, bucket, child, is_used, elements_of, node_data}
 use Rattle.ild_cbor.proofs.Blocks.{block_again}
-use Rattle.ild_cbor.specs.Nodes.{Stands, Finds}
+use Rattle.ild_cbor.specs.Nodes.{HasData, Finds}
 use Rattle.ild_cbor.specs.Reading.{fault_of}
 use Rattle.ild_cbor.specs.Span.{item_of, place_of}
 use Rattle.ild_cbor.specs.declared.fault.CborFault.{CborFault}
@@ -28,7 +28,7 @@ none_of None h = refl
 none_of (Some x) h = absurd cc
 
 -- the bytes of an item are a block
-pub no_item_fault : (n : Node) (b : List ℕ) → ((t : Data) → Stands n t → b ≡ spell t) → fault_of b ≡ None
+pub no_item_fault : (n : Node) (b : List ℕ) → ((t : Data) → HasData n t → b ≡ spell t) → fault_of b ≡ None
 no_item_fault n b is = none_of (fault_of b) (∥∥₁_elim n.stands (Bool-set (is_none (fault_of b)) true) (λ h. ap is_none (block_again b h.of (record { within = h.spells.within; spelled = is h.of h.spells }))))
 
 -- ---- how many elements stand before that of a slot
@@ -74,7 +74,7 @@ found_there slots i n below (Some m) items at before used finds =
 
 pub element_found : (slots : List TrieSlot) (i n : ℕ) (whole below : Node) (r : Option Node) → ItemsAreAt → IsAt whole (node_data slots) [] (node_data slots)
     → Finds whole (place_of (node_data slots) 1) (item_of (node_data slots) 1) (Some below) → n ≡ elements_before slots i → is_used (get_or slots i empty) ≡ true
-    → ((t : Data) → Stands below t → Finds below (place_of t n) (item_of t n) r) → IfSome r (IsElementAt slots i)
+    → ((t : Data) → HasData below t → Finds below (place_of t n) (item_of t n) r) → IfSome r (IsElementAt slots i)
 element_found slots i n whole below r items at finds before used next =
     let there = list_found slots whole below items at finds in
     found_there slots i n below r items there before used (next (elements_data slots) there.stands)

@@ -4,7 +4,7 @@ ghost use Rattle.ild_data.specs.Bytes.{AreBytes};
 ghost use Rattle.ild_data.specs.Data.{Data};
 ghost use Rattle.ild_data.specs.Trie.{TrieSlot, bucket, child};
 ghost use Rattle.ild_data.specs.declared.hamt_shape.HamtShape.{HamtShape};
-ghost use Rattle.ild_cbor.specs.Nodes.{Stands};
+ghost use Rattle.ild_cbor.specs.Nodes.{HasData};
 ghost use Rattle.ild_node.specs.NewSlots.{IsFilled, hold_seen};
 ghost use Rattle.ild_node_slots.specs.Places.{elements_before};
 ghost use Rattle.ild_node_slots.specs.Views.{HasSlots};
@@ -23,7 +23,7 @@ const LINK_ROOM: usize = 48;
 
 // An item as a block by itself.
 fn apart<'b>(node: &Node<'b>) -> Node<'b>
-    ensures { (t : Data) → Stands node.now t → IsAt result t [] t }
+    ensures { (t : Data) → HasData node.now t → IsAt result t [] t }
 {
     // It does no work: its clause says what the node of a whole block is.
     nodes_are_at_places();

@@ -10,7 +10,7 @@ ghost use Rattle.ild_node_slots.specs.Views.{HasEntries, HasSlots};
 ghost use Rattle.ild_node_slots.specs.declared.view.NodeView.{NodeView};
 ghost use Rattle.ild_hamt_climb.specs.inside.Gathering.{put_each, some_entry};
 ghost use Rattle.ild_hamt_climb.specs.Known.{SomeBucket, SomeSlot, SomeWalk};
-ghost use Rattle.ild_hamt_climb.specs.Seen.{Shows};
+ghost use Rattle.ild_hamt_climb.specs.Seen.{IsReadOf};
 
 use ild_node::{Bucket, NewHold, NodeSlot, Rows, Slots};
 use std::alloc::{AllocError, Global};
@@ -73,7 +73,7 @@ fn put_bucket(alloc: Global, bucket: Bucket<'_>, rows: &mut Rows) -> Result<(), 
 
 fn put_slot(alloc: Global, slot: NodeSlot<'_>, rows: &mut Rows) -> Result<(), AllocError>
     requires { ∥ SomeSlot slot ∥₁ }
-    ensures { (s : TrieSlot) → Shows slot.entry s → OnOk result (rows.new ≡ put_each (bucket_entries s) rows.old) }
+    ensures { (s : TrieSlot) → IsReadOf slot.entry s → OnOk result (rows.new ≡ put_each (bucket_entries s) rows.old) }
 {
     match slot {
         NodeSlot::Bucket(bucket) => put_bucket(alloc, bucket, rows),

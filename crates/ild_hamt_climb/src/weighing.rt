@@ -7,7 +7,7 @@ ghost use Rattle.ild_node_slots.specs.Steps.{IsAtSlot};
 ghost use Rattle.ild_node_slots.specs.Views.{HasSlots};
 ghost use Rattle.ild_node_slots.specs.declared.view.NodeView.{NodeView};
 ghost use Rattle.ild_hamt_climb.specs.inside.Gathering.{weight};
-ghost use Rattle.ild_hamt_climb.specs.Seen.{Shows};
+ghost use Rattle.ild_hamt_climb.specs.Seen.{IsReadOf};
 
 use ild_data::HamtShape;
 use ild_node::{NewHold, NodeSlot, NodeView, Slots};
@@ -23,7 +23,7 @@ fn new_weight(shape: HamtShape, slot: &Option<NewHold>) -> usize
 }
 
 fn read_weight(shape: HamtShape, slot: NodeSlot<'_>) -> usize
-    ensures { (s : TrieSlot) → Shows slot.entry s → result ≡ weight shape.bucket s }
+    ensures { (s : TrieSlot) → IsReadOf slot.entry s → result ≡ weight shape.bucket s }
 {
     match slot {
         NodeSlot::Empty => 0,

@@ -2,7 +2,7 @@
 ghost use Rattle.std.specs.Prelude.{◌≡◌, ◌++◌, ◌∷◌, [], IsTrue, IfOk, IfSome, OnOk};
 ghost use Rattle.std.specs.Ordering.{is_lt};
 ghost use Rattle.ild_data.specs.ByteOrder.{bytewise};
-ghost use Rattle.ild_cbor.specs.Nodes.{Stands};
+ghost use Rattle.ild_cbor.specs.Nodes.{HasData};
 ghost use Rattle.ild_node.specs.Rows.{IsAbove, NestsIn};
 ghost use Rattle.ild_node_slots.specs.Spelled.{tree_in};
 ghost use Rattle.ild_hamt_samples.specs.Pairs.{entries_of};
@@ -40,7 +40,7 @@ pub fn is_scalar(node: &Node<'_>) -> bool
 
 // The node that a block is.
 fn node_in(block: &[u8]) -> Option<Node<'_>>
-    ensures { IfSome result (λ n. Stands n (tree_in block.now)) }
+    ensures { IfSome result (λ n. HasData n (tree_in block.now)) }
 {
     match check(block) {
         Ok(node) => Some(node),

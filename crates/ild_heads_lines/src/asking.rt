@@ -1,6 +1,6 @@
 //! What a line asks.
 ghost use Rattle.std.specs.Prelude.{◌≡◌};
-ghost use Rattle.ild_script.specs.Reads.{Finds};
+ghost use Rattle.ild_script.specs.Reads.{ReadsSo};
 ghost use Rattle.ild_heads_lines.specs.Asks.{AsksAs, AsksText, asks_text, asks_head, asks_target, asks_session, asks_other, asks_line};
 
 use crate::names::name_of;

@@ -2,7 +2,7 @@
 ghost use Rattle.std.specs.Prelude.{◌≡◌};
 ghost use Rattle.std.specs.List.{list_all};
 ghost use Rattle.ild_script.specs.Laws.{is_segment_byte};
-ghost use Rattle.ild_script.specs.Reads.{Finds};
+ghost use Rattle.ild_script.specs.Reads.{ReadsSo};
 ghost use Rattle.ild_heads_lines.specs.Name.{name_of};
 
 use ild_data::Txt;
@@ -20,7 +20,7 @@ fn is_segment(text: &str) -> bool
 
 /// The name that a segment writes, which isn't empty.
 pub(crate) fn name_of(alloc: Global, text: &str) -> Result<Txt, LineErr>
-    ensures { Finds (λ t. t) result (name_of text.now) }
+    ensures { ReadsSo (λ t. t) result (name_of text.now) }
 {
     if text.is_empty() {
         return Err(LineErr::Line);

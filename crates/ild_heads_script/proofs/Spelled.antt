@@ -15,7 +15,7 @@ use Rattle.ild_heads_lines.specs.Told.{told_text}
 use Rattle.ild_heads_lines.specs.Asks.{Reading, blank, asks, outside, asks_of}
 use Rattle.ild_heads_lines.specs.declared.asking.Asked.{Asked}
 use Rattle.ild_heads_lines.specs.declared.asking.Asked.TheVariants as A
-use Rattle.ild_heads_script.specs.Answer.{Refuses, Tells, Takes, HeadTurn, EmptyTurn, EventTurn, AskedTurn, ReadingTurn, LineTurn}
+use Rattle.ild_heads_script.specs.Answer.{RefusesEvent, Tells, TakesEvent, HeadTurn, EmptyTurn, EventTurn, AskedTurn, ReadingTurn, LineTurn}
 use Rattle.ild_heads_script.specs.Script.{Deed, quiet, refused, took, deed_text, deed_next, texts, event_of, events, Answers, Spells}
 
 -- an event that is given is allowed, and its lines are answered as work may
@@ -35,7 +35,7 @@ module _ {V : Type 0} (told : Bool) (Stands : List ℕ → V → Type 0) (Plain 
   of_quiet : (text ≡ []) × (t ≡ s) → GivesOne told Stands Plain s text t
   of_quiet q = record { deed = quiet; text_is = q.0; next_is = q.1; given = tt }
 
-  of_refused : (refusal : No) → Refuses refusal s text t → GivesOne told Stands Plain s text t
+  of_refused : (refusal : No) → RefusesEvent refusal s text t → GivesOne told Stands Plain s text t
   of_refused refusal r = record { deed = refused refusal; text_is = r.text_is; next_is = r.stays; given = tt }
 
   of_tells : (event : Event) → (IsTrue told → IsAllowed Stands event) → Tells told Stands Plain s event text t → GivesOne told Stands Plain s text t
@@ -46,7 +46,7 @@ module _ {V : Type 0} (told : Bool) (Stands : List ℕ → V → Type 0) (Plain 
     given = λ y. (allowed y, subst (λ b. AreGiven b Stands Plain s event o.turn.done) y o.turn.given);
   }
 
-  of_takes : (event : Event) → (IsTrue told → IsAllowed Stands event) → Takes told Stands Plain s event text t → GivesOne told Stands Plain s text t
+  of_takes : (event : Event) → (IsTrue told → IsAllowed Stands event) → TakesEvent told Stands Plain s event text t → GivesOne told Stands Plain s text t
   of_takes event allowed (inl r) = of_refused N.Memory r
   of_takes event allowed (inr o) = of_tells event allowed o
 
@@ -75,7 +75,7 @@ module _ {V : Type 0} (told : Bool) (Stands : List ℕ → V → Type 0) (Plain 
   of_reading (asks asked) o = of_asked asked o
   of_reading outside o = of_refused N.Line o
 
-  of_either : (reading : Reading) → (Refuses N.Memory s text t ⊎ ReadingTurn told Stands Plain Cause s reading text t) → GivesOne told Stands Plain s text t
+  of_either : (reading : Reading) → (RefusesEvent N.Memory s text t ⊎ ReadingTurn told Stands Plain Cause s reading text t) → GivesOne told Stands Plain s text t
   of_either reading (inl r) = of_refused N.Memory r
   of_either reading (inr o) = of_reading reading o
 

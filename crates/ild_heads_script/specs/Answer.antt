@@ -17,7 +17,7 @@ use Rattle.ild_heads_lines.specs.declared.asking.Asked.{Asked}
 use Rattle.ild_heads_lines.specs.declared.asking.Asked.TheVariants as A
 
 -- a refusal: its text, and all stays
-pub record Refuses (refusal : No) (s : State) (text : List ℕ) (t : State) : Type 0 where
+pub record RefusesEvent (refusal : No) (s : State) (text : List ℕ) (t : State) : Type 0 where
   pub text_is : text ≡ no_text refusal
   pub stays : t ≡ s
 
@@ -28,29 +28,29 @@ pub record Tells {V : Type 0} (told : Bool) (Stands : List ℕ → V → Type 0)
   pub text_is : text ≡ told_text (session_of event) outcome
 
 -- or memory was wanting for it
-abbrev pub Takes : {V : Type 0} → Bool → (List ℕ → V → Type 0) → (V → List ℕ → List ℕ → V → Type 0) → State → Event → List ℕ → State → Type 0
-Takes told Stands Plain s event text t = Refuses N.Memory s text t ⊎ Tells told Stands Plain s event text t
+abbrev pub TakesEvent : {V : Type 0} → Bool → (List ℕ → V → Type 0) → (V → List ℕ → List ℕ → V → Type 0) → State → Event → List ℕ → State → Type 0
+TakesEvent told Stands Plain s event text t = RefusesEvent N.Memory s text t ⊎ Tells told Stands Plain s event text t
 
 module _ {V : Type 0} (told : Bool) (Stands : List ℕ → V → Type 0) (Plain : V → List ℕ → List ℕ → V → Type 0) (Cause : No → Type 0) (s : State) where
   -- a line for a head that is refused for a cause
   abbrev pub IsRefused : List ℕ → State → Type 0
-  IsRefused text t = (refusal : No) × Cause refusal × Refuses refusal s text t
+  IsRefused text t = (refusal : No) × Cause refusal × RefusesEvent refusal s text t
 
   -- a head with a root: the event is given where the root stands for a value
   abbrev pub HeadTurn : List ℕ → BlockId → List ℕ → State → Type 0
-  HeadTurn name root text t = IsRefused text t ⊎ ((IsTrue told → IsValue Stands root.0) × Takes told Stands Plain s (E.Head name root) text t)
+  HeadTurn name root text t = IsRefused text t ⊎ ((IsTrue told → IsValue Stands root.0) × TakesEvent told Stands Plain s (E.Head name root) text t)
 
   -- a head with the empty value, whatever its root is
   abbrev pub EmptyTurn : List ℕ → List ℕ → State → Type 0
-  EmptyTurn name text t = IsRefused text t ⊎ ((root : BlockId) × (IsTrue told → IsValue Stands root.0) × Takes told Stands Plain s (E.Head name root) text t)
+  EmptyTurn name text t = IsRefused text t ⊎ ((root : BlockId) × (IsTrue told → IsValue Stands root.0) × TakesEvent told Stands Plain s (E.Head name root) text t)
 
   abbrev pub EventTurn : Event → List ℕ → State → Type 0
   EventTurn (E.Head name root) text t = HeadTurn name root text t
-  EventTurn (E.Begin n name) text t = Takes told Stands Plain s (E.Begin n name) text t
-  EventTurn (E.Line n line) text t = Takes told Stands Plain s (E.Line n line) text t
-  EventTurn (E.Commit n) text t = Takes told Stands Plain s (E.Commit n) text t
-  EventTurn (E.Replay n) text t = Takes told Stands Plain s (E.Replay n) text t
-  EventTurn (E.Abort n) text t = Takes told Stands Plain s (E.Abort n) text t
+  EventTurn (E.Begin n name) text t = TakesEvent told Stands Plain s (E.Begin n name) text t
+  EventTurn (E.Line n line) text t = TakesEvent told Stands Plain s (E.Line n line) text t
+  EventTurn (E.Commit n) text t = TakesEvent told Stands Plain s (E.Commit n) text t
+  EventTurn (E.Replay n) text t = TakesEvent told Stands Plain s (E.Replay n) text t
+  EventTurn (E.Abort n) text t = TakesEvent told Stands Plain s (E.Abort n) text t
 
   abbrev pub AskedTurn : Asked → List ℕ → State → Type 0
   AskedTurn (A.Empty name) text t = EmptyTurn name text t
@@ -60,11 +60,11 @@ module _ {V : Type 0} (told : Bool) (Stands : List ℕ → V → Type 0) (Plain 
   abbrev pub ReadingTurn : Reading → List ℕ → State → Type 0
   ReadingTurn blank text t = (text ≡ []) × (t ≡ s)
   ReadingTurn (asks asked) text t = AskedTurn asked text t
-  ReadingTurn outside text t = Refuses N.Line s text t
+  ReadingTurn outside text t = RefusesEvent N.Line s text t
 
   -- a line that isn't empty; memory may be wanting to read it
   abbrev pub SomeTurn : List ℕ → List ℕ → State → Type 0
-  SomeTurn line text t = Refuses N.Memory s text t ⊎ ReadingTurn (asks_of line) text t
+  SomeTurn line text t = RefusesEvent N.Memory s text t ⊎ ReadingTurn (asks_of line) text t
 
   -- the empty line has no reply
   abbrev pub LineTurn : List ℕ → List ℕ → State → Type 0

@@ -5,7 +5,7 @@ ghost use Rattle.ild_heads.specs.Legal.{AreLegal};
 ghost use Rattle.ild_heads.specs.Run.{IsAllowed};
 ghost use Rattle.ild_heads.specs.Work.{Stays};
 ghost use Rattle.ild_heads_script.specs.Said.{said_text};
-ghost use Rattle.ild_heads_script.specs.Answer.{Takes, HeadTurn, EmptyTurn, EventTurn, SomeTurn, LineTurn};
+ghost use Rattle.ild_heads_script.specs.Answer.{TakesEvent, HeadTurn, EmptyTurn, EventTurn, SomeTurn, LineTurn};
 
 use crate::Roots;
 use ild_data::{BlockId, Octets, Txt};
@@ -33,11 +33,11 @@ pub fn said_text(alloc: Global, said: &Said) -> Result<Octets, AllocError>
     }
 }
 
-/// Takes an event.
+/// TakesEvent an event.
 fn take<R: Roots>(heads: &mut Heads, event: Event, work: &mut R) -> Said
     requires legal { IsTrue (R.told work.old) → AreLegal (R.stands work.old) (R.plain (R.rules work.old)) heads.old }
     requires allowed { IsTrue (R.told work.old) → IsAllowed (R.stands work.old) event }
-    ensures said { Takes (R.told work.new) (R.stands work.new) (R.plain (R.rules work.new)) heads.old event (said_text result) heads.new }
+    ensures said { TakesEvent (R.told work.new) (R.stands work.new) (R.plain (R.rules work.new)) heads.old event (said_text result) heads.new }
     ensures legal { IsTrue (R.told work.new) → AreLegal (R.stands work.new) (R.plain (R.rules work.new)) heads.new }
     ensures same { R.rules work.new ≡ R.rules work.old }
     ensures stays { Stays (R.told work.old) (R.stands work.old) (R.told work.new) (R.stands work.new) }

@@ -14,7 +14,7 @@ use Rattle.ild_schema.specs.declared.row.Row.{Row}
 use Rattle.ild_typed.specs.At.{InSlot, seen}
 use Rattle.ild_typed.specs.Segment.{part}
 use Rattle.ild_view.specs.Roots.{root_in}
-use Rattle.ild_inclusion.specs.Branches.{Whether, so, not_so, Finds, found, not_found}
+use Rattle.ild_inclusion.specs.Branches.{Whether, so, not_so, ElseBehind, found, not_found}
 use Rattle.ild_inclusion.specs.Way.{AtSlot, NextNode, NodeIn, OnWay}
 use Rattle.ild_inclusion.specs.Says.{AtKey, Ends, Enters, Follows, Goes, GoesToSlot, Outcome, Walks}
 use Rattle.ild_inclusion.specs.declared.answer.Answer.{Answer}
@@ -26,7 +26,7 @@ pub whether_map : {P Y N Z M : Type 0} → (Y → Z) → (N → M) → Whether P
 whether_map f g (so p y) = so p (f y)
 whether_map f g (not_so p n) = not_so p (g n)
 
-pub finds_map : {X : Type 0} (Is B C : X → Type 0) (N M : Type 0) → ((x : X) → B x → C x) → (N → M) → Finds Is B N → Finds Is C M
+pub finds_map : {X : Type 0} (Is B C : X → Type 0) (N M : Type 0) → ((x : X) → B x → C x) → (N → M) → ElseBehind Is B N → ElseBehind Is C M
 finds_map Is B C N M f g (found x is b) = found x is (f x b)
 finds_map Is B C N M f g (not_found never n) = not_found never (g n)
 

@@ -26,7 +26,7 @@ use Rattle.ild_typed.specs.Node.{IsRoot}
 use Rattle.ild_typed.specs.Segment.{part}
 use Rattle.ild_typed.specs.Slots.{element_of}
 use Rattle.ild_view.specs.Roots.{root_in}
-use Rattle.ild_inclusion.specs.Branches.{Whether, so, not_so, Finds, found, not_found}
+use Rattle.ild_inclusion.specs.Branches.{Whether, so, not_so, ElseBehind, found, not_found}
 use Rattle.ild_inclusion.specs.Way.{AtSlot, IsNodeOf, NodeIn, OnWay}
 use Rattle.ild_inclusion.specs.Says.{AtKey, Ends, EndsHere, Enters, Follows, Fronted, Goes, GoesToSlot, Outcome, Walks}
 use Rattle.ild_inclusion.specs.declared.answer.Answer.{Answer}
@@ -54,7 +54,7 @@ module _ {C : Type 0} where
   whether_meet (not_so p n) (so q z) f g = absurd (p q)
   whether_meet (not_so p n) (not_so q m) f g = g n m
 
-  pub finds_meet : {X : Type 0} (Is B D : X → Type 0) (N M : Type 0) → ((x y : X) → Is x → Is y → x ≡ y) → Finds Is B N → Finds Is D M → ((x : X) → Is x → B x → D x → C) → (N → M → C) → C
+  pub finds_meet : {X : Type 0} (Is B D : X → Type 0) (N M : Type 0) → ((x y : X) → Is x → Is y → x ≡ y) → ElseBehind Is B N → ElseBehind Is D M → ((x : X) → Is x → B x → D x → C) → (N → M → C) → C
   finds_meet Is B D N M one (found x is b) (found y also d) f g = f x is b (subst D (sym (one x y is also)) d)
   finds_meet Is B D N M one (found x is b) (not_found never m) f g = absurd (never x is)
   finds_meet Is B D N M one (not_found never n) (found y also d) f g = absurd (never y also)

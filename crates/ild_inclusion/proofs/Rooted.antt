@@ -1,7 +1,7 @@
 -- The first block of a proof.
 use Rattle.std.proofs.Common.{◌≡◌, ℕ, List, ◌∷◌, Ok, Err, Result, sym, ap, subst}
 use Rattle.ild_cbor.specs.Block.{IsBlockOf}
-use Rattle.ild_cbor.specs.Nodes.{Stands}
+use Rattle.ild_cbor.specs.Nodes.{HasData}
 use Rattle.ild_cbor.specs.declared.node.Node.{Node}
 use Rattle.ild_data.specs.Data.{Data}
 use Rattle.ild_data.specs.Limits.{deepest}
@@ -29,7 +29,7 @@ module _ (h : List ℕ → List ℕ) (rows : List Row) (n : TypeNo) (id : List �
   abbrev Rest : Result Answer VerifyErr → Data → Type 0
   Rest result t = Fronted rows deepest 0 (plainly n) t (λ f. Follows h rows (Gives result) deepest 0 0 (plainly n, f) path left) (λ r. Gives result (Err r))
 
-  walks_on : (one two : List ℕ) → one ≡ first → two ≡ first → id_of one ≡ id → (node : Node) → Spelling 0 two (SpellingGiven (Ok node)) (WrongGiven {X = Node} (Ok node)) → (result : Result Answer VerifyErr) → ((t : Data) → Stands node t → Rest result t)
+  walks_on : (one two : List ℕ) → one ≡ first → two ≡ first → id_of one ≡ id → (node : Node) → Spelling 0 two (SpellingGiven (Ok node)) (WrongGiven {X = Node} (Ok node)) → (result : Result Answer VerifyErr) → ((t : Data) → HasData node t → Rest result t)
       → Walks h rows n id path (Gives result) blocks
   walks_on one two same also named node spelled result rest =
       subst (λ (xs : List (List ℕ)). Walks h rows n id path (Gives result) xs) (sym is)
@@ -38,7 +38,7 @@ module _ (h : List ℕ → List ℕ) (rows : List Row) (n : TypeNo) (id : List �
 
   -- its data have a front
   pub walks_from : (one two : List ℕ) → one ≡ first → two ≡ first → id_of one ≡ id → (node : Node) → Spelling 0 two (SpellingGiven (Ok node)) (WrongGiven {X = Node} (Ok node)) → (result : Result Answer VerifyErr) → (v : View)
-      → ((t : Data) → Stands node t → Fronted rows deepest 0 (plainly n) t (FrontGiven rows (plainly n) (Ok v)) (RefusedGiven {X = View} (Ok v)))
+      → ((t : Data) → HasData node t → Fronted rows deepest 0 (plainly n) t (FrontGiven rows (plainly n) (Ok v)) (RefusedGiven {X = View} (Ok v)))
       → ((f : Value) → IsView v f → Follows h (table_of v) (Gives result) deepest 0 0 (slot_of v, f) path left) → Walks h rows n id path (Gives result) blocks
   walks_from one two same also named node spelled result v fronted follows =
       walks_on one two same also named node spelled result (λ t stands. finds_map (λ f. Front rows deepest (plainly n) f t) (λ f. IsPartView rows (plainly n, f) v) _ _ _ on (λ e. absurd cc) (fronted t stands)) where
@@ -49,7 +49,7 @@ module _ (h : List ℕ → List ℕ) (rows : List Row) (n : TypeNo) (id : List �
 
   -- they have none, or memory is wanting
   pub walks_refused : (one two : List ℕ) → one ≡ first → two ≡ first → id_of one ≡ id → (node : Node) → Spelling 0 two (SpellingGiven (Ok node)) (WrongGiven {X = Node} (Ok node)) → (e : VerifyErr)
-      → ((t : Data) → Stands node t → Fronted rows deepest 0 (plainly n) t (FrontGiven rows (plainly n) (Err e)) (RefusedGiven {X = View} (Err e))) → Walks h rows n id path (Gives (Err e)) blocks
+      → ((t : Data) → HasData node t → Fronted rows deepest 0 (plainly n) t (FrontGiven rows (plainly n) (Err e)) (RefusedGiven {X = View} (Err e))) → Walks h rows n id path (Gives (Err e)) blocks
   walks_refused one two same also named node spelled e fronted =
       walks_on one two same also named node spelled (Err e) (λ t stands. finds_map (λ f. Front rows deepest (plainly n) f t) (FrontGiven rows (plainly n) (Err e)) _ _ _ (λ f none. absurd none) again (fronted t stands)) where
         again : RefusedGiven {X = View} (Err e) (R.Shape 0) → Gives (Err e) (Err (R.Shape 0))

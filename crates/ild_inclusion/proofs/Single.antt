@@ -18,7 +18,7 @@ use Rattle.ild_schema.proofs.Legibly.{legible}
 use Rattle.ild_typed.specs.Hamt.{alone}
 use Rattle.ild_typed.proofs.OneValue.{alone_exact, one_value}
 use Rattle.ild_inclusion.specs.Given.{Gives, HasMemory}
-use Rattle.ild_inclusion.specs.Says.{IsWrongFirst, Says}
+use Rattle.ild_inclusion.specs.Says.{IsWrongFirst, BlocksSay}
 use Rattle.ild_inclusion.specs.Verifies.{Verifies, VerifyAnswer}
 use Rattle.ild_inclusion.specs.declared.answer.Answer.{Answer}
 use Rattle.ild_inclusion.specs.declared.fault.Reject.{Reject}
@@ -46,7 +46,7 @@ module _ (h : List ℕ → List ℕ) (rows : List Row) (schema : IsSchema rows) 
 
     -- what is given of a walk is its outcome
     module _ (result : Result Answer VerifyErr) where
-      given_says : (a : Answer) → HasMemory result → Says h rows n id path blocks a → Walks h rows n id path (Gives result) blocks → result ≡ Ok a
+      given_says : (a : Answer) → HasMemory result → BlocksSay h rows n id path blocks a → Walks h rows n id path (Gives result) blocks → result ≡ Ok a
       given_says a memory says w = outcomes_meet (Gives result) (λ x. x ≡ Ok a) (λ x gives is. subst (Gives result) is gives) w says
 
       given_wrong : (r : Reject) → HasMemory result → IsWrongFirst h rows n id path blocks r → Walks h rows n id path (Gives result) blocks → result ≡ Err (V.Reject r)

@@ -4,7 +4,7 @@ use Rattle.std.specs.Prelude.{MatchOption, is_some}
 use Rattle.std.proofs.Math.Bool.{Bool-set}
 use Rattle.std.proofs.Math.Logic.{∥∥₁_elim}
 use Rattle.std.proofs.lemmas.Option.{none-some, same_Some}
-use Rattle.ild_cbor.specs.Nodes.{Stands}
+use Rattle.ild_cbor.specs.Nodes.{HasData}
 use Rattle.ild_cbor.specs.declared.node.Node.{Node}
 use Rattle.ild_cbor.specs.declared.piece.Piece.{Piece}
 use Rattle.ild_cbor.specs.declared.piece.Piece.TheVariants as P
@@ -51,11 +51,11 @@ use Rattle.ild_inclusion.specs.declared.fault.VerifyErr.TheVariants as E
 
 -- ---- the view of an item with a front
 
-item_stands : (rows : List Row) (b : Body) (n : Node) (t : Data) → piece_in b ≡ Some (P.Node n) → Stands n t → BodyStands rows b t
+item_stands : (rows : List Row) (b : Body) (n : Node) (t : Data) → piece_in b ≡ Some (P.Node n) → HasData n t → BodyStands rows b t
 item_stands rows (B.Held p) n t e stands = subst (λ (q : Piece). StandsFor rows q t) (sym (same_Some p (P.Node n) e)) stands
 item_stands rows (B.Implicit s) n t e stands = absurd (none-some (P.Node n) e)
 
-pub part_view : (rows : List Row) (s : Slot) (n : Node) (t : Data) (v : View) (room : ℕ) (f : Value) → IsViewAt rows s (P.Node n) v → Stands n t → Front rows room s f t → IsPartView rows (s, f) v
+pub part_view : (rows : List Row) (s : Slot) (n : Node) (t : Data) (v : View) (room : ℕ) (f : Value) → IsViewAt rows s (P.Node n) v → HasData n t → Front rows room s f t → IsPartView rows (s, f) v
 part_view rows s n t v room f at stands front = record {
   table = at.table;
   slot = at.slot;
@@ -178,7 +178,7 @@ module _ (rows : List Row) (hash key : List ℕ) (room : ℕ) (s : Slot) (d : Da
     ends j cs (Some t) e = absurd (subst (λ (v : Option Node). ValueGiven (Some t) v) none e.value)
 
   pub enters_on : (x : End) (n : Node) → x.value ≡ Some n → OnWay p hash key (EndGiven (Ok x)) (WrongGiven {X = End} (Ok x)) 0 i slots bs
-      → ((t : Data) → Stands n t → GoesToSlot rows room s x.at t (λ q. OnGiven rows room result x.at q x.left.now) (RefusedGiven result))
+      → ((t : Data) → HasData n t → GoesToSlot rows room s x.at t (λ q. OnGiven rows room result x.at q x.left.now) (RefusedGiven result))
       → EntersRoot rows hash key room s d i bs (OnGiven rows room result) (OffGiven result) (RefusedGiven result)
   enters_on x n some way goes = entered_as (Ok x) way ends (λ r e. absurd cc) where
     ends : (j : ℕ) (cs : List (List ℕ)) (o : Option Data) → IsEnd j cs o x → Ends_ j cs o

@@ -6,6 +6,6 @@ pub data Whether (P Yes No : Type 0) : Type 0 where
   not_so : (P → ⊥) → No → Whether P Yes No
 
 -- one is there, of which then this holds; or there is none, and then that
-pub data Finds {X : Type 0} (Is Behind : X → Type 0) (Else : Type 0) : Type 0 where
-  found : (x : X) → Is x → Behind x → Finds Is Behind Else
-  not_found : ((x : X) → Is x → ⊥) → Else → Finds Is Behind Else
+pub data ElseBehind {X : Type 0} (Is Behind : X → Type 0) (Else : Type 0) : Type 0 where
+  found : (x : X) → Is x → Behind x → ElseBehind Is Behind Else
+  not_found : ((x : X) → Is x → ⊥) → Else → ElseBehind Is Behind Else

@@ -1,6 +1,6 @@
 -- What calls give of a walk, piece by piece.
 use Rattle.std.specs.Prelude.{◌≡◌, ◌≢◌, ℕ, List, Option, Some, None, Result, Ok, Err}
-use Rattle.ild_cbor.specs.Nodes.{Stands}
+use Rattle.ild_cbor.specs.Nodes.{HasData}
 use Rattle.ild_cbor.specs.declared.node.Node.{Node}
 use Rattle.ild_data.specs.Data.{Data}
 use Rattle.ild_data.specs.Trie.{TrieSlot}
@@ -35,7 +35,7 @@ abbrev pub WrongGiven : {X : Type 0} → Result X Reject → Reject → Type 0
 WrongGiven result r = result ≡ Err r
 
 abbrev pub SpellingGiven : Result Node Reject → Data → Type 0
-SpellingGiven (Ok n) t = Stands n t
+SpellingGiven (Ok n) t = HasData n t
 SpellingGiven (Err r) t = ⊥
 
 abbrev pub NodeGiven : HamtShape → Result NodeView Reject → List TrieSlot → Type 0
@@ -49,7 +49,7 @@ BeneathGiven p (Err r) slots bs = ⊥
 -- a node for the value, or neither
 abbrev pub ValueGiven : Option Data → Option Node → Type 0
 ValueGiven None None = Unit {0}
-ValueGiven (Some t) (Some n) = Stands n t
+ValueGiven (Some t) (Some n) = HasData n t
 ValueGiven None (Some n) = ⊥
 ValueGiven (Some t) None = ⊥
 

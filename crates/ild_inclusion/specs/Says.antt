@@ -20,7 +20,7 @@ use Rattle.ild_typed.specs.Segment.{part}
 use Rattle.ild_typed.specs.Slots.{element_of}
 use Rattle.ild_view.specs.Forms.{shape_in}
 use Rattle.ild_view.specs.Roots.{root_in}
-use Rattle.ild_inclusion.specs.Branches.{Whether, Finds}
+use Rattle.ild_inclusion.specs.Branches.{Whether, ElseBehind}
 use Rattle.ild_inclusion.specs.Way.{OnWay, Spelling}
 use Rattle.ild_inclusion.specs.declared.answer.Answer.{Answer}
 use Rattle.ild_inclusion.specs.declared.answer.Answer.TheVariants as A
@@ -32,7 +32,7 @@ Outcome = Result Answer Reject
 
 -- data in block i have a front of a slot that nests no deeper than the room
 abbrev pub Fronted : List Row → ℕ → ℕ → Slot → Data → (Value → Type 0) → (Reject → Type 0) → Type 0
-Fronted rows room i s t Behind Wrong = Finds (λ f. Front rows room s f t) Behind (Wrong (R.Shape i))
+Fronted rows room i s t Behind Wrong = ElseBehind (λ f. Front rows room s f t) Behind (Wrong (R.Shape i))
 
 -- the value at a key, which stands in block i, goes to the slot of the HAMT's values
 pub record GoesToSlot (rows : List Row) (room : ℕ) (hamt_slot : Slot) (i : ℕ) (t : Data) (Behind : InSlot → Type 0) (Wrong : Reject → Type 0) : Type 0 where
@@ -87,8 +87,8 @@ Walks h rows n id path Is (b ∷ bs) =
     Whether (id_of b ≡ id) (Spelling 0 b (λ t. Fronted rows deepest 0 (plainly n) t (λ f. Follows h rows Is deepest 0 0 (plainly n, f) path bs) (λ r. Is (Err r))) (λ r. Is (Err r))) (Is (Err R.Root))
 
 -- the blocks say this of the path
-abbrev pub Says : (List ℕ → List ℕ) → List Row → TypeNo → List ℕ → List (List ℕ) → List (List ℕ) → Answer → Type 0
-Says h rows n id path blocks a = Walks h rows n id path (λ o. o ≡ Ok a) blocks
+abbrev pub BlocksSay : (List ℕ → List ℕ) → List Row → TypeNo → List ℕ → List (List ℕ) → List (List ℕ) → Answer → Type 0
+BlocksSay h rows n id path blocks a = Walks h rows n id path (λ o. o ≡ Ok a) blocks
 
 -- they say nothing, since this is wrong, and nothing before it on the way
 abbrev pub IsWrongFirst : (List ℕ → List ℕ) → List Row → TypeNo → List ℕ → List (List ℕ) → List (List ℕ) → Reject → Type 0

@@ -3,19 +3,19 @@ use Rattle.std.specs.Prelude.{◌≡◌, ℕ, List, Result, Ok, Err}
 use Rattle.ild_schema.specs.declared.number.TypeNo.{TypeNo}
 use Rattle.ild_schema.specs.declared.row.Row.{Row}
 use Rattle.ild_inclusion.specs.Given.{HasMemory}
-use Rattle.ild_inclusion.specs.Says.{IsWrongFirst, Says}
+use Rattle.ild_inclusion.specs.Says.{IsWrongFirst, BlocksSay}
 use Rattle.ild_inclusion.specs.declared.answer.Answer.{Answer}
 use Rattle.ild_inclusion.specs.declared.fault.Reject.{Reject}
 use Rattle.ild_inclusion.specs.declared.fault.VerifyErr.{VerifyErr}
 use Rattle.ild_inclusion.specs.declared.fault.VerifyErr.TheVariants as V
 
 abbrev pub VerifyAnswer : (List ℕ → List ℕ) → List Row → TypeNo → List ℕ → List (List ℕ) → List (List ℕ) → Result Answer VerifyErr → Type 0
-VerifyAnswer h rows n id path blocks (Ok a) = Says h rows n id path blocks a
+VerifyAnswer h rows n id path blocks (Ok a) = BlocksSay h rows n id path blocks a
 VerifyAnswer h rows n id path blocks (Err (V.Reject r)) = IsWrongFirst h rows n id path blocks r
 VerifyAnswer h rows n id path blocks (Err V.Memory) = Unit {0}
 
 -- what the blocks say is answered, and else what is wrong first on the way, unless memory is wanting
 pub record Verifies (h : List ℕ → List ℕ) (rows : List Row) (n : TypeNo) (id : List ℕ) (path blocks : List (List ℕ)) (result : Result Answer VerifyErr) : Type 0 where
   pub answer : VerifyAnswer h rows n id path blocks result
-  pub said : (a : Answer) → Says h rows n id path blocks a → HasMemory result → result ≡ Ok a
+  pub said : (a : Answer) → BlocksSay h rows n id path blocks a → HasMemory result → result ≡ Ok a
   pub wrong : (r : Reject) → IsWrongFirst h rows n id path blocks r → HasMemory result → result ≡ Err (V.Reject r)

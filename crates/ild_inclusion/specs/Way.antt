@@ -9,7 +9,7 @@ use Rattle.ild_data.specs.Trie.{TrieSlot, empty, bucket, child, node_data}
 use Rattle.ild_data.specs.TrieShape.{index, trie_levels}
 use Rattle.ild_data.specs.declared.hamt_shape.HamtShape.{HamtShape}
 use Rattle.ild_node_slots.specs.Form.{IsNode}
-use Rattle.ild_inclusion.specs.Branches.{Whether, Finds}
+use Rattle.ild_inclusion.specs.Branches.{Whether, ElseBehind}
 use Rattle.ild_inclusion.specs.declared.fault.Reject.{Reject}
 use Rattle.ild_inclusion.specs.declared.fault.Reject.TheVariants as R
 
@@ -20,11 +20,11 @@ pub record IsNodeOf (p : HamtShape) (t : Data) (slots : List TrieSlot) : Type 0 
 
 -- block i spells data within the limits of a block
 abbrev pub Spelling : ℕ → List ℕ → (Data → Type 0) → (Reject → Type 0) → Type 0
-Spelling i b Behind Wrong = Finds (IsBlockOf b) Behind (Wrong (R.Cbor i))
+Spelling i b Behind Wrong = ElseBehind (IsBlockOf b) Behind (Wrong (R.Cbor i))
 
 -- the data in it are a node
 abbrev pub NodeAt : HamtShape → ℕ → Data → (List TrieSlot → Type 0) → (Reject → Type 0) → Type 0
-NodeAt p i t Behind Wrong = Finds (IsNodeOf p t) Behind (Wrong (R.Shape i))
+NodeAt p i t Behind Wrong = ElseBehind (IsNodeOf p t) Behind (Wrong (R.Shape i))
 
 -- block i is the node to which a link leads
 abbrev pub NodeIn : HamtShape → List ℕ → ℕ → List ℕ → (List TrieSlot → Type 0) → (Reject → Type 0) → Type 0

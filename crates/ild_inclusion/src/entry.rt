@@ -1,6 +1,6 @@
 //! An item that is to have a front.
 ghost use Rattle.std.specs.Prelude.{◌≡◌, ◌<◌, length, true};
-ghost use Rattle.ild_cbor.specs.Nodes.{Stands};
+ghost use Rattle.ild_cbor.specs.Nodes.{HasData};
 ghost use Rattle.ild_data.specs.Data.{Data};
 ghost use Rattle.ild_inclusion.specs.Given.{FrontGiven, HasMemory, RefusedGiven};
 ghost use Rattle.ild_inclusion.specs.Says.{Fronted};
@@ -24,7 +24,7 @@ pub(crate) fn fronted<'b>(
 ) -> Result<View<'b>, VerifyErr>
     requires within { slot.ty.0 < length acc.now }
     requires safe { is_safe acc.now slot ≡ true }
-    ensures { (t : Data) → Stands node.entry t → HasMemory result → Fronted acc.now room at slot t (FrontGiven acc.now slot result) (RefusedGiven result) }
+    ensures { (t : Data) → HasData node.entry t → HasMemory result → Fronted acc.now room at slot t (FrontGiven acc.now slot result) (RefusedGiven result) }
 {
     // They do no work: their clauses say what acceptance says of the table, and that what is refused has no front.
     acc.recall();

@@ -1,6 +1,6 @@
 //! One segment of a path.
 ghost use Rattle.std.specs.Prelude.{◌≡◌, ◌<◌, ◌+◌, ◌^◌, List, Some, is_some, length, true};
-ghost use Rattle.ild_cbor.specs.Nodes.{Stands};
+ghost use Rattle.ild_cbor.specs.Nodes.{HasData};
 ghost use Rattle.ild_data.specs.Data.{Data};
 ghost use Rattle.ild_inclusion.specs.Given.{GoesGiven, HasMemory, IsMapOf, OffGiven, OnGiven, RefusedGiven};
 ghost use Rattle.ild_inclusion.specs.Says.{EntersRoot, GoesToSlot};
@@ -77,7 +77,7 @@ fn go_to<'b>(
 ) -> Result<Step<'b>, VerifyErr>
     requires few { at + length left.now + 1 < 2 ^ 64 }
     requires map { is_some (value_in (form_of (table_of map.now) (slot_of map.now))) ≡ true }
-    ensures { (elem : Slot) → IsMapOf (form_of (table_of map.now) (slot_of map.now)) elem → (t : Data) → Stands node.entry t → HasMemory result
+    ensures { (elem : Slot) → IsMapOf (form_of (table_of map.now) (slot_of map.now)) elem → (t : Data) → HasData node.entry t → HasMemory result
         → GoesToSlot (table_of map.now) room (slot_of map.now) at t (λ q. OnGiven (table_of map.now) room result at q left.now) (RefusedGiven result) }
 {
     let acc = map.schema();

@@ -1,6 +1,6 @@
 //! The nodes on a key's way.
 ghost use Rattle.std.specs.Prelude.{◌≡◌, ◌<◌, ◌+◌, ◌^◌, ◌↔◌, List, Option, length, true};
-ghost use Rattle.ild_cbor.specs.Nodes.{Stands};
+ghost use Rattle.ild_cbor.specs.Nodes.{HasData};
 ghost use Rattle.ild_data.specs.Data.{Data};
 ghost use Rattle.ild_data.specs.Spell.{id_of};
 ghost use Rattle.ild_data.specs.Trie.{TrieSlot};
@@ -41,7 +41,7 @@ pub(crate) fn item_in(i: usize, block: &[u8]) -> Result<Node<'_>, Reject>
 
 // The node of this shape that an item in the block with a number is.
 fn node_at(shape: HamtShape, i: usize, node: Node<'_>) -> Result<NodeView<'_>, Reject>
-    ensures { (t : Data) → Stands node.entry t → NodeAt shape i t (NodeGiven shape result) (WrongGiven result) }
+    ensures { (t : Data) → HasData node.entry t → NodeAt shape i t (NodeGiven shape result) (WrongGiven result) }
 {
     match node_of(node, shape) {
         Ok(view) => Ok(view),

@@ -44,7 +44,7 @@ use Rattle.ild_typed_fronts.proofs.Seeing.{parts_of_fronts}
 use Rattle.ild_typed_fronts.specs.Front.{front, front_in, fronts_of_pairs, is_root, root_or_map}
 use Rattle.ild_view.specs.Roots.{root_in}
 use Rattle.ild_inclusion.specs.Branches.{found, not_found, not_so, so}
-use Rattle.ild_inclusion.specs.Says.{AtKey, Ends, EndsHere, Enters, EntersRoot, Follows, Fronted, Goes, GoesToSlot, Outcome, Says, Walks}
+use Rattle.ild_inclusion.specs.Says.{AtKey, Ends, EndsHere, Enters, EntersRoot, Follows, Fronted, Goes, GoesToSlot, Outcome, BlocksSay, Walks}
 use Rattle.ild_inclusion.specs.Way.{Spelling}
 use Rattle.ild_inclusion.specs.declared.answer.Answer.{Answer}
 use Rattle.ild_inclusion.specs.declared.answer.Answer.TheVariants as A
@@ -199,7 +199,7 @@ module _ (h : List ℕ → List ℕ) (rows : List Row) (schema : IsSchema rows) 
 
 -- of a value with all its blocks among others
 all_among : (h : List ℕ → List ℕ) (rows : List Row) → IsSchema rows → (n : TypeNo) (path blocks others : List (List ℕ)) (a : Answer) (v : Value) (d : Data) → OfType rows (plainly n) v → represented (whole h) rows (plainly n) v ≡ Some d
-    → AllByRecursion (Contains others) (blocks_of bare h rows n v d) → Says h rows n (id_of (spell d)) path blocks a → (answered h rows 0 (plainly n, v) path ≡ Some a) ⊎ TwoCollide blocks others
+    → AllByRecursion (Contains others) (blocks_of bare h rows n v d) → BlocksSay h rows n (id_of (spell d)) path blocks a → (answered h rows 0 (plainly n, v) path ≡ Some a) ⊎ TwoCollide blocks others
 all_among h rows schema n path blocks others a v d typed tree all says =
     let own = (all_split (Contains others) (nodes h rows (plainly n) v) [] all.1).0 in
     by_blocks h rows schema blocks others a n path v d (record { typed = typed; tree = tree; among = own }) all.0 blocks (λ b in_. in_) says
@@ -215,4 +215,4 @@ proofs_hold = λ h rows schema n id path blocks a says held v stands.
     let own : List (List ℕ) = blocks_of bare h rows n v d in
     all_among h rows schema n path blocks held a v d (deepest, stands.storable.fits) stands.storable.tree
     (all_more (λ b. block_at held (id_of b) ≡ Some b) (Contains held) (λ b here. held_in held (id_of b) b here) own stands.all)
-    (subst (λ (i : List ℕ). Says h rows n i path blocks a) stands.root says)
+    (subst (λ (i : List ℕ). BlocksSay h rows n i path blocks a) stands.root says)

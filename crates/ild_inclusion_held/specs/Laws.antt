@@ -12,7 +12,7 @@ use Rattle.ild_typed.specs.Represented.{represented}
 use Rattle.ild_typed.specs.Schema.{IsSchema}
 use Rattle.ild_typed.specs.Stands.{Stands, bare, blocks_of, root_id}
 use Rattle.ild_typed.specs.Typed.{Typed}
-use Rattle.ild_inclusion.specs.Says.{Says}
+use Rattle.ild_inclusion.specs.Says.{BlocksSay}
 use Rattle.ild_inclusion.specs.declared.answer.Answer.{Answer}
 use Rattle.ild_inclusion_held.specs.Answered.{answered}
 
@@ -29,11 +29,11 @@ pub record TwoCollide (firsts seconds : List (List ℕ)) : Type 0 where
 abbrev pub ValuesAnswer : Type 0
 ValuesAnswer =
     (h : List ℕ → List ℕ) (rows : List Row) → IsSchema rows → (n : TypeNo) (path blocks : List (List ℕ)) (a : Answer) (v : Value) (d : Data) → Typed rows (plainly n) v
-    → represented (whole h) rows (plainly n) v ≡ Some d → Says h rows n (root_id bare d) path blocks a
+    → represented (whole h) rows (plainly n) v ≡ Some d → BlocksSay h rows n (root_id bare d) path blocks a
     → (answered h rows 0 (plainly n, v) path ≡ Some a) ⊎ TwoCollide blocks (blocks_of bare h rows n v d)
 
 -- what blocks say of a path, each value that stands under the root answers, whatever store holds it, or two blocks collide
 abbrev pub ProofsHold : Type 0
 ProofsHold =
-    (h : List ℕ → List ℕ) (rows : List Row) → IsSchema rows → (n : TypeNo) (id : List ℕ) (path blocks : List (List ℕ)) (a : Answer) → Says h rows n id path blocks a
+    (h : List ℕ → List ℕ) (rows : List Row) → IsSchema rows → (n : TypeNo) (id : List ℕ) (path blocks : List (List ℕ)) (a : Answer) → BlocksSay h rows n id path blocks a
     → (held : List (List ℕ)) (v : Value) → Stands bare (block_at held) h rows n id v → (answered h rows 0 (plainly n, v) path ≡ Some a) ⊎ TwoCollide blocks held

@@ -9,7 +9,7 @@ use Rattle.std.proofs.lemmas.Option.{same_Some, none-some}
 use Rattle.ild_data.specs.Data as T
 use Rattle.ild_data.specs.Data.{Data}
 use Rattle.ild_data.specs.Key.{same_text, value_at}
-use Rattle.ild_cbor.specs.Nodes.{Stands}
+use Rattle.ild_cbor.specs.Nodes.{HasData}
 use Rattle.ild_cbor.specs.Scalar.{text_of as text_found}
 use Rattle.ild_cbor.specs.Steps.{HasItems, ItemsGive, FindsItems, items_of}
 use Rattle.ild_cbor.specs.declared.items.Items.{Items}
@@ -41,7 +41,7 @@ pub record Item (ds : T.Items) (n : Node) (t : Items) : Type 0 where
   pub one : Data
   pub rest : T.Items
   pub is : ds ≡ T.item one rest
-  pub stands : Stands n one
+  pub stands : HasData n one
   pub left : HasItems t rest
 
 pub item_step : (s : Items) (ds : T.Items) (n : Node) (t : Items) → ItemsGive s (Some n) t → HasItems s ds → Item ds n t
@@ -61,7 +61,7 @@ text_is d k e = absurd (none-some k (sym e))
 -- ---- one pair
 
 module _ (n : Node) (d : Data) (s t : Items) (first : Node) (k : List ℕ)
-    (list : FindsItems n (items_of d) (Some s)) (one : ItemsGive s (Some first) t) (text : (e : Data) → Stands first e → Some k ≡ text_found e)
+    (list : FindsItems n (items_of d) (Some s)) (one : ItemsGive s (Some first) t) (text : (e : Data) → HasData first e → Some k ≡ text_found e)
   where
     named : ListOf d s
     named = list_of n d s list
@@ -88,7 +88,7 @@ module _ (n : Node) (d : Data) (s t : Items) (first : Node) (k : List ℕ)
       both : d ≡ T.list (T.item (T.text k) (T.item next.one next.rest))
       both = whole ∙ ap (λ ds. T.list (T.item (T.text k) ds)) next.is
 
-      pub pair_whole : (v : Items) → ItemsGive u None v → (e : Data) × (d ≡ pair_data (k, e)) × Stands second e
+      pub pair_whole : (v : Items) → ItemsGive u None v → (e : Data) × (d ≡ pair_data (k, e)) × HasData second e
       pair_whole v no_more = (next.one, both ∙ ap (λ ds. T.list (T.item (T.text k) (T.item next.one ds))) (item_end u next.rest v no_more next.left), next.stands)
 
       pub pair_long : (third : Node) (v : Items) → ItemsGive u (Some third) v → (is_pair d ≡ true) × (is_two d ≡ false) × (name_of (items_or d) ≡ k ∷ []) × (entry_of (items_or d) ≡ [])
@@ -113,7 +113,7 @@ module _ (fs : List Field) (d : Data) (ks : List (List ℕ)) (es : List (List �
       let same : es ≡ es ++ entry_of (items_or d) = sym (none_behind es) ∙ ap (λ xs. es ++ xs) (sym h.3) in
       (sym h.1, subst (λ xs. Noted fs (ks ++ name_of (items_or d)) xs new) same names)
 
-  pub entry_noted : (k : Bor (List ℕ)) (n : Node) → IsPairOf d (P.Entry k n) → ((v : Data) → Stands n v → Noted fs (ks ++ k.now ∷ []) (es ++ (k.now, v) ∷ []) new)
+  pub entry_noted : (k : Bor (List ℕ)) (n : Node) → IsPairOf d (P.Entry k n) → ((v : Data) → HasData n v → Noted fs (ks ++ k.now ∷ []) (es ++ (k.now, v) ∷ []) new)
       → (true ≡ is_two d) × Noted fs (ks ++ name_of (items_or d)) (es ++ entry_of (items_or d)) new
   entry_noted k n h noted =
       subst (λ e. (true ≡ is_two e) × Noted fs (ks ++ name_of (items_or e)) (es ++ entry_of (items_or e)) new) (sym h.1) (refl, noted h.0 h.2)
@@ -151,7 +151,7 @@ pair_kind d (P.Name k) h not_odd = h.0
 pair_kind d (P.Entry k n) h not_odd = ap is_pair h.1
 
 module _ (fs : List Field) (ds : T.Items) (s t : Items) (old : Notes) (miscounted : Bool) (h : Pairing fs ds s old miscounted) (n : Node) where
-  pub pairing_on : (new : Notes) (pair : Pair) (two : Bool) → ItemsGive s (Some n) t → ((d : Data) → Stands n d → IsPairOf d pair) → (pair ≡ P.Odd → ⊥)
+  pub pairing_on : (new : Notes) (pair : Pair) (two : Bool) → ItemsGive s (Some n) t → ((d : Data) → HasData n d → IsPairOf d pair) → (pair ≡ P.Odd → ⊥)
       → ((d : Data) → IsPairOf d pair → is_pair d ≡ true → (ks : List (List ℕ)) (es : List (List ℕ × Data)) → Noted fs ks es old
       → (two ≡ is_two d) × Noted fs (ks ++ name_of (items_or d)) (es ++ entry_of (items_or d)) new)
       → Pairing fs ds t new (miscounted || not two)
@@ -173,7 +173,7 @@ module _ (fs : List Field) (ds : T.Items) (s t : Items) (old : Notes) (miscounte
             (subst (λ es. Noted fs (pair_names h.done ++ name_of (items_or d)) es new) (sym (entries_more h.done d)) noted.1);
       }
 
-  pub pairing_odd : (pair : Pair) → ItemsGive s (Some n) t → ((d : Data) → Stands n d → IsPairOf d pair) → pair ≡ P.Odd → list_any is_odd (T.items_list ds) ≡ true
+  pub pairing_odd : (pair : Pair) → ItemsGive s (Some n) t → ((d : Data) → HasData n d → IsPairOf d pair) → pair ≡ P.Odd → list_any is_odd (T.items_list ds) ≡ true
   pairing_odd pair gives found odd =
       let x = item_step s h.rest n t gives h.left in
       let bad : is_pair x.one ≡ false = subst (IsPairOf x.one) odd (found x.one x.stands) in
@@ -199,7 +199,7 @@ pub record Seeking (key : List ℕ) (es : List (List ℕ × Data)) (s : Items) :
   pub left : HasItems s (T.items_of (map pair_data rest))
 
 module _ (key : List ℕ) (es : List (List ℕ × Data)) (s t : Items) (n : Node) (h : Seeking key es s) (gives : ItemsGive s (Some n) t) where
-  pub seek_found : (r : Node) → ((e : List ℕ × Data) → Stands n (pair_data e) → Found (value_at key (e ∷ [])) (Some r)) → Found (value_at key es) (Some r)
+  pub seek_found : (r : Node) → ((e : List ℕ × Data) → HasData n (pair_data e) → Found (value_at key (e ∷ [])) (Some r)) → Found (value_at key es) (Some r)
   seek_found r told = subst (λ o. Found o (Some r)) (sym h.same) (by h.rest h.left) where
     here : (b : Bool) (d : Data) (rest : List (List ℕ × Data)) → Found (cond b (Some d) None) (Some r) → Found (cond b (Some d) (value_at key rest)) (Some r)
     here true d rest k = k
@@ -211,7 +211,7 @@ module _ (key : List ℕ) (es : List (List ℕ × Data)) (s t : Items) (n : Node
         let x = gives (T.items_of (map pair_data (e ∷ rest))) left in
         here (same_text key e.0) e.1 rest (told e x.stands)
 
-  pub seek_on : ((e : List ℕ × Data) → Stands n (pair_data e) → Found (value_at key (e ∷ [])) None) → Seeking key es t
+  pub seek_on : ((e : List ℕ × Data) → HasData n (pair_data e) → Found (value_at key (e ∷ [])) None) → Seeking key es t
   seek_on told = by h.rest h.same h.left where
     past : (b : Bool) (d : Data) (o : Option Data) → Found (cond b (Some d) None) None → cond b (Some d) o ≡ o
     past true d o k = absurd k
@@ -240,9 +240,9 @@ value_inside z (T.list (T.item k (T.item v ds))) = v
 value_inside z d = z
 
 -- a pair's name and value
-pub pair_of : (e : List ℕ × Data) (k : Bor (List ℕ)) (n : Node) → IsPairOf (pair_data e) (P.Entry k n) → (k.now ≡ e.0) × Stands n e.1
+pub pair_of : (e : List ℕ × Data) (k : Bor (List ℕ)) (n : Node) → IsPairOf (pair_data e) (P.Entry k n) → (k.now ≡ e.0) × HasData n e.1
 unfolding name_inside value_inside
-pair_of e k n h = (sym (ap name_inside h.1), subst (Stands n) (sym (ap (value_inside e.1) h.1)) h.2)
+pair_of e k n h = (sym (ap name_inside h.1), subst (HasData n) (sym (ap (value_inside e.1) h.1)) h.2)
 
 -- what is no name with a value is no pair
 pub no_pair_of : (e : List ℕ × Data) (pair : Pair) → IsPairOf (pair_data e) pair → (pair ≡ P.Odd) ⊎ ((pair ≡ P.Empty) ⊎ ((k : Bor (List ℕ)) × (pair ≡ P.Name k))) → ⊥
@@ -257,7 +257,7 @@ module _ (key : List ℕ) (e : List ℕ × Data) where
       let name : e.0 ≡ k.now = ap name_inside h.1 in
       let value : e.1 ≡ h.0 = ap (value_inside e.1) h.1 in
       let here : same_text key e.0 ≡ true = ap (same_text key) name ∙ same in
-      subst (λ b. Found (cond b (Some e.1) None) (Some n)) (sym here) (subst (Stands n) (sym value) h.2)
+      subst (λ b. Found (cond b (Some e.1) None) (Some n)) (sym here) (subst (HasData n) (sym value) h.2)
 
   pub value_other : (k : Bor (List ℕ)) (n : Node) → IsPairOf (pair_data e) (P.Entry k n) → same_text key k.now ≡ false → Found (value_at key (e ∷ [])) None
   unfolding name_inside

@@ -2,7 +2,7 @@
 use Rattle.std.proofs.Common.{◌≡◌, ℕ, List, [], ◌∷◌, ◌++◌, append_assoc, Option, Some, None, refl, sym, ◌∙◌, ap, subst}
 use Rattle.std.specs.Borrow.{Bor}
 use Rattle.ild_data.specs.Data.{Data}
-use Rattle.ild_cbor.specs.Nodes.{Stands}
+use Rattle.ild_cbor.specs.Nodes.{HasData}
 use Rattle.ild_cbor.specs.declared.node.Node.{Node}
 use Rattle.ild_schema.specs.declared.def.Field.{Field}
 use Rattle.ild_typed.specs.Named.{names}
@@ -27,7 +27,7 @@ none_behind (x ∷ xs) = ap (λ ys. x ∷ ys) (none_behind xs)
 -- one more is noted
 abbrev pub NotesMore : List Field → List ℕ → Node → Notes → Notes → Type 0
 NotesMore fs k n old new =
-    (d : Data) → Stands n d → (ks : List (List ℕ)) (es : List (List ℕ × Data)) → Noted fs ks es old → Noted fs (ks ++ k ∷ []) (es ++ (k, d) ∷ []) new
+    (d : Data) → HasData n d → (ks : List (List ℕ)) (es : List (List ℕ × Data)) → Noted fs ks es old → Noted fs (ks ++ k ∷ []) (es ++ (k, d) ∷ []) new
 
 module _ (fs : List Field) (es : List (List ℕ × Data)) (s t : MapEntries) (old : Notes) where
   pub survey_on : (new : Notes) (key : Bor (List ℕ)) (n : Node) → EntriesGive s (Some (key, n)) t → NotesMore fs key.now n old new → Surveying fs es s old → Surveying fs es t new

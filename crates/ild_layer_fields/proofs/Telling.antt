@@ -3,7 +3,7 @@ use Rattle.std.proofs.Common.{◌≡◌, ℕ, List, [], ◌∷◌, ◌++◌, app
 use Rattle.std.specs.Borrow.{Bor}
 use Rattle.std.specs.List.{AllByRecursion}
 use Rattle.ild_data.specs.Data.{Data}
-use Rattle.ild_cbor.specs.Nodes.{Stands}
+use Rattle.ild_cbor.specs.Nodes.{HasData}
 use Rattle.ild_cbor.specs.declared.node.Node.{Node}
 use Rattle.ild_layer_piece.specs.Entries.{HasLeft, EntriesGive}
 use Rattle.ild_layer_piece.specs.declared.walk.MapEntries.{MapEntries}
@@ -33,7 +33,7 @@ all_more P (y ∷ xs) x all own = (all.0, all_more P xs x all.1 own)
 
 module _ (rows : List Row) (fs : List Field) (es : List (List ℕ × Data)) (s t : MapEntries) (old : Bool) where
   pub telling_on : (new own : Bool) (key : Bor (List ℕ)) (place : ℕ) (n : Node) → new ≡ (old && own) → place ≡ place_of fs key.now → EntriesGive s (Some (key, n)) t
-      → (own ≡ true → (d : Data) → Stands n d → IsToldAt rows fs (place, d)) → Telling rows fs es s old → Telling rows fs es t new
+      → (own ≡ true → (d : Data) → HasData n d → IsToldAt rows fs (place, d)) → Telling rows fs es s old → Telling rows fs es t new
   telling_on new own key place n is_new at gives tells h = by h.rest h.is h.left where
     by : (rest : List (List ℕ × Data)) → es ≡ h.done ++ rest → HasLeft s rest → Telling rows fs es t new
     by [] is left = absurd (gives [] left)

@@ -5,7 +5,7 @@ use Rattle.ild_data.specs.Data.{Data}
 use Rattle.ild_schema.specs.DataKinds.{same_kind, struct_kind}
 use Rattle.ild_schema.specs.declared.def.Field.{Field}
 use Rattle.ild_schema.specs.declared.def.StructForm.{StructForm}
-use Rattle.ild_typed.specs.Kinds.{kind_of}
+use Rattle.ild_typed.specs.Kinds.{kind_word_of}
 use Rattle.ild_typed.specs.Named.{is_pair, is_two, pair_entries, pair_names, entry_of, has_twice, items_or, name_of}
 use Rattle.ild_typed.specs.StructWhy.{place_of, writes_implicit, struct_kind_why, struct_name_why, struct_missing, struct_count, struct_order, struct_repeat, struct_implicit, struct_delimiter, has_stranger, is_out_of_order, lacks_field}
 use Rattle.ild_typed.specs.Why as W
@@ -21,7 +21,7 @@ use Rattle.ild_layer_fields.specs.declared.pair.Pair.{Pair}
 
 -- the causes that a struct can have
 abbrev pub struct_cause : StructForm → List Field → Data → Why → Bool
-struct_cause form fs t W.Kind = not (same_kind (struct_kind form) (kind_of t)) || struct_kind_why form t
+struct_cause form fs t W.Kind = not (same_kind (struct_kind form) (kind_word_of t)) || struct_kind_why form t
 struct_cause form fs t W.Name = struct_name_why form fs t
 struct_cause form fs t W.Missing = struct_missing form fs t
 struct_cause form fs t W.Count = struct_count form fs t

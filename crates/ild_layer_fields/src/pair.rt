@@ -1,7 +1,7 @@
 //! The pairs of a list.
 ghost use Rattle.std.specs.Prelude.{◌≡◌};
 ghost use Rattle.ild_data.specs.Data.{Data};
-ghost use Rattle.ild_cbor.specs.Nodes.{Stands};
+ghost use Rattle.ild_cbor.specs.Nodes.{HasData};
 ghost use Rattle.ild_layer_fields.specs.Pairs.{IsPairOf};
 
 use ild_cbor::Node;
@@ -22,7 +22,7 @@ pub enum Pair<'b> {
 impl<'b> Pair<'b> {
     /// The pair that an item is.
     pub fn of(item: &Node<'b>) -> Pair<'b>
-        ensures { (d : Data) → Stands item.now d → IsPairOf d result }
+        ensures { (d : Data) → HasData item.now d → IsPairOf d result }
     {
         let Some(mut parts) = item.items() else {
             return Pair::Odd;

@@ -1,6 +1,6 @@
 //! Values of which a kind tells that they are those of their fields.
 ghost use Rattle.std.specs.Prelude.{◌≡◌, ◌<◌, ℕ, List, length, true};
-ghost use Rattle.ild_cbor.specs.Nodes.{Stands};
+ghost use Rattle.ild_cbor.specs.Nodes.{HasData};
 ghost use Rattle.ild_cbor.specs.Scalar.{kind_of};
 ghost use Rattle.ild_data.specs.Data.{Data};
 ghost use Rattle.ild_layer_fields.specs.Told.{IsTold, IsToldAt, scalar_kind};
@@ -38,7 +38,7 @@ fn is_told(acc: &Accepted, ty: TypeNo, kind: Kind) -> bool
 
 /// Whether a value is told to be that of the field at a place.
 pub(crate) fn is_told_at(fields: &Fields<'_>, place: usize, value: &Node<'_>) -> bool
-    ensures { result ≡ true → (d : Data) → Stands value.now d → IsToldAt fields.now.acc.now fields.now.def.now.fields (place, d) }
+    ensures { result ≡ true → (d : Data) → HasData value.now d → IsToldAt fields.now.acc.now fields.now.def.now.fields (place, d) }
 {
     match fields.def.fields.as_slice().get(place) {
         Some(field) => is_told(fields.acc, field.slot.ty, value.kind()),

@@ -10,7 +10,7 @@ use Rattle.std.proofs.lemmas.Option.{same_Some, none-some}
 use Rattle.ild_data.specs.Data as T
 use Rattle.ild_data.specs.Data.{Data}
 use Rattle.ild_data.specs.Key.{same_text}
-use Rattle.ild_cbor.specs.Nodes.{Stands}
+use Rattle.ild_cbor.specs.Nodes.{HasData}
 use Rattle.ild_cbor.specs.Scalar.{text_of as text_found}
 use Rattle.ild_cbor.specs.Spelled.{SpellsSomeItems}
 use Rattle.ild_cbor.specs.Steps.{HasItems, ItemsGive, UnfoldFirst, Unfolded, Unfolds}
@@ -30,7 +30,7 @@ text_is (T.text s) k e = ap T.text (sym (same_Some k s e))
 text_is d k e = absurd (none-some k (sym e))
 
 module _ (s t u w : Items) (y v : Node) (k : List ℕ)
-    (opens : Unfolds s (Some 2) t) (one : ItemsGive t (Some y) u) (text : (e : Data) → Stands y e → Some k ≡ text_found e) (two : ItemsGive u (Some v) w)
+    (opens : Unfolds s (Some 2) t) (one : ItemsGive t (Some y) u) (text : (e : Data) → HasData y e → Some k ≡ text_found e) (two : ItemsGive u (Some v) w)
   where
     listed : (es ds : T.Items) → Unfolded s es ds 2 t → IsNamed (T.item (T.list es) ds) k v w
     listed T.no_items ds x = let c = x.count in absurd (omega arith)

@@ -8,7 +8,7 @@ use Rattle.ild_data.specs.Data.{Data}
 use Rattle.ild_data.specs.Key.{same_text}
 use Rattle.ild_cbor.specs.declared.items.Items.{Items}
 use Rattle.ild_cbor.specs.declared.node.Node.{Node}
-use Rattle.ild_cbor.specs.Nodes.{Stands}
+use Rattle.ild_cbor.specs.Nodes.{HasData}
 use Rattle.ild_cbor.specs.Steps.{FindsItems, HasItems, ItemsGive, items_of}
 use Rattle.ild_layer_fields.proofs.Pairing.{item_end, list_of}
 use Rattle.ild_typed.specs.Named.{has_twice, is_among, is_pair, is_two, items_or, name_of, pair_names}
@@ -87,7 +87,7 @@ record First (ds : T.Items) (n : Node) (after : Items) (done : List Data) (rest 
   one : Data
   others : T.Items
   is : T.items_list ds ≡ done ++ one ∷ T.items_list others
-  stands : Stands n one
+  stands : HasData n one
   has : HasItems after others
 
 module _ (ds : T.Items) (left after : Items) (miscounted repeated : Bool) (seen : BTreeSet (Bor (List ℕ))) (h : Judging ds left miscounted repeated seen) (n : Node) (gives : ItemsGive left (Some n) after) where
@@ -100,10 +100,10 @@ module _ (ds : T.Items) (left after : Items) (miscounted repeated : Bool) (seen 
   moved : T.items_list ds ≡ (h.done ++ first.one ∷ []) ++ T.items_list first.others
   moved = first.is ∙ sym (append_assoc h.done (first.one ∷ []) (T.items_list first.others))
 
-  pub judged_odd : ((d : Data) → Stands n d → is_pair d ≡ false) → list_any is_odd (T.items_list ds) ≡ true
+  pub judged_odd : ((d : Data) → HasData n d → is_pair d ≡ false) → list_any is_odd (T.items_list ds) ≡ true
   judged_odd odd = ap (list_any is_odd) first.is ∙ any_found is_odd h.done (T.items_list first.others) first.one (ap not (odd first.one first.stands))
 
-  pub judged_other : ((d : Data) → Stands n d → (is_pair d ≡ true) × (is_two d ≡ false)) → Judging ds after true repeated seen
+  pub judged_other : ((d : Data) → HasData n d → (is_pair d ≡ true) × (is_two d ≡ false)) → Judging ds after true repeated seen
   judged_other other =
       let x = other first.one first.stands in
       let mis : list_any is_miscounted (h.done ++ first.one ∷ []) ≡ true = any_found is_miscounted h.done [] first.one (ap not x.1) in
@@ -120,7 +120,7 @@ module _ (ds : T.Items) (left after : Items) (miscounted repeated : Bool) (seen 
       clash : true ≡ false → ⊥
       clash e = cc
 
-  pub judged_pair : (k : List ℕ) (now : Bool) (after_seen : BTreeSet (Bor (List ℕ))) → ((d : Data) → Stands n d → (e : Data) × (d ≡ pair_data (k, e))) → now ≡ (repeated || is_among k (texts seen))
+  pub judged_pair : (k : List ℕ) (now : Bool) (after_seen : BTreeSet (Bor (List ℕ))) → ((d : Data) → HasData n d → (e : Data) × (d ≡ pair_data (k, e))) → now ≡ (repeated || is_among k (texts seen))
       → ((q : List ℕ) → is_among q (texts after_seen) ≡ (same_text q k || is_among q (texts seen))) → Judging ds after miscounted now after_seen
   judged_pair k now after_seen pair now_is more =
       let x = pair first.one first.stands in

@@ -2,7 +2,7 @@
 use Rattle.std.specs.Prelude.{◌≡◌, ◌+◌, ◌*◌, ◌%◌, ◌^◌, ℕ, Bool, true, false, cond, nat_lt, List, [], ◌∷◌, map, Option, Some, None}
 use Rattle.std.specs.List.{list_any}
 use Rattle.ild_data.specs.Data.{Data, Items, item}
-use Rattle.ild_cbor.specs.Nodes.{Stands}
+use Rattle.ild_cbor.specs.Nodes.{HasData}
 use Rattle.ild_cbor.specs.Steps.{HasItems}
 use Rattle.ild_cbor.specs.declared.items.Items.{Items as ItemsLeft}
 use Rattle.ild_cbor.specs.declared.node.Node.{Node}
@@ -15,7 +15,7 @@ pub record IsNamed (ds : Items) (name : List ℕ) (value : Node) (behind : Items
   pub first : Data
   pub rest : Items
   pub is : ds ≡ item (pair_data (name, first)) rest
-  pub stands : Stands value first
+  pub stands : HasData value first
   pub left : HasItems behind rest
 
 -- the digest of a text and then one more byte

@@ -1,5 +1,5 @@
 //! The pairs of a list.
-ghost use Rattle.ild_cbor.specs.Nodes.{Stands};
+ghost use Rattle.ild_cbor.specs.Nodes.{HasData};
 ghost use Rattle.ild_data.specs.Data.{Data};
 ghost use Rattle.ild_layer_pairs.specs.Shape.{IsShape};
 
@@ -18,7 +18,7 @@ pub enum Shape<'b> {
 
 /// What an item is.
 pub fn shape_of<'b>(item: &Node<'b>) -> Shape<'b>
-    ensures { (d : Data) → Stands item.now d → IsShape d result }
+    ensures { (d : Data) → HasData item.now d → IsShape d result }
 {
     let Some(mut parts) = item.items() else {
         return Shape::Odd;

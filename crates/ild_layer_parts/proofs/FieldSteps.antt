@@ -25,12 +25,12 @@ use Rattle.ild_schema.specs.declared.def.TypeDef.{TypeDef}
 use Rattle.ild_schema.specs.declared.def.TypeDef.TheVariants as D
 use Rattle.ild_schema.specs.declared.number.Slot.{Slot}
 use Rattle.ild_schema.specs.declared.row.Row.{Row}
-use Rattle.ild_struct.specs.Parts.{HasParts, IsFieldOf, IsPart, fields_of}
+use Rattle.ild_struct.specs.Parts.{HasParts, IsFieldOf, IsFieldPart, fields_of}
 use Rattle.ild_struct.specs.declared.part.Part.{Part as Held}
 use Rattle.ild_struct.specs.declared.parts.StructParts.{StructParts}
 use Rattle.ild_typed.specs.Fields.{is_implicit}
 use Rattle.ild_typed.specs.Fits.{Fits}
-use Rattle.ild_typed.specs.Layers.{Shows}
+use Rattle.ild_typed.specs.Layers.{RepresentsSome}
 use Rattle.ild_typed.specs.Spots.{Spot, Step, field_spots, field_steps, value_spot}
 use Rattle.ild_typed.proofs.Structs.{scalar_data, scalar_same}
 use Rattle.ild_typed.proofs.WalkTotal.{plain_fits}
@@ -47,7 +47,7 @@ use Rattle.ild_layer_parts.proofs.Lists.{all_got, drop_end, drop_got}
 -- ---- a value that is left out
 
 scalar_fits : (rows : List Row) → IsClear rows → AllDelims rows → (slot : Slot) (s : Scalar) (o : Option TypeDef) → form_of rows slot ≡ o → is_of s o ≡ true → IsTree (scalar_data s) → (room : ℕ)
-    → Shows (Fits rows room) rows slot (scalar_data s)
+    → RepresentsSome (Fits rows room) rows slot (scalar_data s)
 scalar_fits rows clear delims slot (C.Bool a) (Some D.Bool) is h tree room =
     let p = bool_plain room (T.boolean a) refl in plain_fits rows slot (T.boolean a) tree clear delims D.Bool is room p.0 p.1
 scalar_fits rows clear delims slot (C.Int a) (Some D.Int) is h tree room =
@@ -62,7 +62,7 @@ implicit_fits rows legible f d fits e = by f.implicit refl e where
   by None is h = absurd cc
   by (Some s) is h = λ tree room.
       let same : d ≡ scalar_data s = scalar_same s d h in
-      subst (λ x. Shows (Fits rows room) rows f.slot x) (sym same) (scalar_fits rows legible.clear legible.delims f.slot s (form_of rows f.slot) refl (fits s is) (subst IsTree same tree) room)
+      subst (λ x. RepresentsSome (Fits rows room) rows f.slot x) (sym same) (scalar_fits rows legible.clear legible.delims f.slot s (form_of rows f.slot) refl (fits s is) (subst IsTree same tree) room)
 
 -- ---- how many fields are written
 
@@ -206,13 +206,13 @@ module _ (rows : List Row) (def : StructDef) (parts : StructParts) (next : ℕ) 
 pub record FieldAt (rows : List Row) (held : List (Option Data)) (next : ℕ) (f : Field) (part : Held) : Type 0 where
   pub content : Option Data
   pub at : slice_get held next ≡ Some content
-  pub is : IsPart rows f content part
+  pub is : IsFieldPart rows f content part
 
 pub field_at : (rows : List Row) (def : StructDef) (parts : StructParts) (next : ℕ) (ps : List Spot) (h : FieldsLeft rows def parts next ps) (i : ℕ) (f : Field) → slice_get def.fields i ≡ Some f
     → (part : Held) → IsFieldOf rows (fields_of parts) h.held i part → FieldAt rows h.held i f part
 field_at rows def parts next ps h i f known part x =
     let there : Some f ≡ Some x.field = sym known ∙ ap (λ (fs : List Field). slice_get fs i) (sym h.same) ∙ x.there in
-    record { content = x.held; at = x.at; is = subst (λ (g : Field). IsPart rows g x.held part) (sym (same_Some f x.field there)) x.is }
+    record { content = x.held; at = x.at; is = subst (λ (g : Field). IsFieldPart rows g x.held part) (sym (same_Some f x.field there)) x.is }
 
 pub field_there : (rows : List Row) (def : StructDef) (parts : StructParts) (next : ℕ) (ps : List Spot) (h : FieldsLeft rows def parts next ps) (f : Field) → slice_get def.fields next ≡ Some f
     → (part : Held) → IsFieldOf rows (fields_of parts) h.held next part → FieldAt rows h.held next f part
@@ -220,7 +220,7 @@ field_there rows def parts next ps h f known part x = field_at rows def parts ne
 
 -- a count goes on
 pub count_on : (rows : List Row) (def : StructDef) (parts : StructParts) (next : ℕ) (ps : List Spot) (h : FieldsLeft rows def parts next ps) (i written more : ℕ)
-    → (part : Held) → IsFieldOf rows (fields_of parts) h.held i part → ((f : Field) (o : Option Data) → IsPart rows f o part → more ≡ count_there f o) → written ≡ written_in i def.fields h.held
+    → (part : Held) → IsFieldOf rows (fields_of parts) h.held i part → ((f : Field) (o : Option Data) → IsFieldPart rows f o part → more ≡ count_there f o) → written ≡ written_in i def.fields h.held
     → written + more ≡ written_in (i + 1) def.fields h.held
 count_on rows def parts next ps h i written more part x counts so_far =
     let known : slice_get def.fields i ≡ Some x.field = ap (λ (fs : List Field). slice_get fs i) (sym h.same) ∙ x.there in
@@ -229,7 +229,7 @@ count_on rows def parts next ps h i written more part x counts so_far =
     omega (arith, step, own, so_far)
 
 pub implicit_told : (rows : List Row) (def : StructDef) (parts : StructParts) (next : ℕ) (ps : List Spot) (h : FieldsLeft rows def parts next ps) (f : Field) (d : Data) → slice_get def.fields next ≡ Some f
-    → slice_get h.held next ≡ Some (Some d) → (part : Held) → IsFieldOf rows (fields_of parts) h.held next part → (b : Bool) → ((o : Option Data) → IsPart rows f o part → b ≡ is_there f o) → is_implicit f.implicit d ≡ not b
+    → slice_get h.held next ≡ Some (Some d) → (part : Held) → IsFieldOf rows (fields_of parts) h.held next part → (b : Bool) → ((o : Option Data) → IsFieldPart rows f o part → b ≡ is_there f o) → is_implicit f.implicit d ≡ not b
 implicit_told rows def parts next ps h f d known at part there b tells =
     let x = field_there rows def parts next ps h f known part there in
     let same : x.content ≡ Some d = same_Some x.content (Some d) (sym x.at ∙ at) in

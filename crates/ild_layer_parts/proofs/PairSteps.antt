@@ -7,7 +7,7 @@ use Rattle.ild_data.specs.Data.{Data}
 use Rattle.ild_cbor.specs.declared.items.Items.{Items}
 use Rattle.ild_cbor.specs.declared.node.Node.{Node}
 use Rattle.ild_cbor.specs.declared.piece.Piece.TheVariants as Q
-use Rattle.ild_cbor.specs.Nodes.{Stands}
+use Rattle.ild_cbor.specs.Nodes.{HasData}
 use Rattle.ild_cbor.specs.Steps.{HasItems, ItemsGive}
 use Rattle.ild_schema.specs.Slots.{plainly}
 use Rattle.ild_schema.specs.declared.def.MapForm.TheVariants as MF
@@ -24,13 +24,13 @@ use Rattle.ild_layer_parts.specs.Ways.{LeadsFirst}
 use Rattle.ild_layer_parts.proofs.Leading.{goes_up, leads_there}
 use Rattle.ild_layer_places.specs.Places.{steps_of}
 use Rattle.ild_data.specs.Limits.{longest_block}
-use Rattle.ild_layer_parts.specs.Part.{IsSpotted, Takes}
+use Rattle.ild_layer_parts.specs.Part.{IsSpotted, TakesSpot}
 use Rattle.ild_layer_pairs.proofs.Judging.{pair_same}
 
 module _ (s : PairEntries) (ps : List Spot) (h : HasPairs s ps) where
   pub pair_value : (rows : List Row) (x : Node) (r : Part) (way : Way) → s.held ≡ Some x → r ≡ record { slot = s.value; piece = Q.Node x; is_key = false; way = way }
       → (next : ℕ) → next ≡ min (s.place + 1) (2 ^ 64 - 1) → (rest : PairEntries) → rest ≡ record { key = s.key; value = s.value; items = s.items; place = next; held = None }
-      → (others : List Spot) × Takes rows ps others r × HasPairs rest others
+      → (others : List Spot) × TakesSpot rows ps others r × HasPairs rest others
   pair_value rows x r way held same next up rest is =
       let k = subst (λ o. IsPairHeld s o h.entries ps) held h.is in
       let one : held_count s.held ≡ 1 = ap held_count held in
@@ -67,7 +67,7 @@ module _ (s : PairEntries) (ps : List Spot) (h : HasPairs s ps) where
 
     module _ (n : Node) (after : Items) (gives : ItemsGive s.items (Some n) after) where
       -- each of them is a pair
-      pub pair_never : ((d : Data) → Stands n d → (is_pair d ≡ false) ⊎ (is_two d ≡ false)) → ps ≡ []
+      pub pair_never : ((d : Data) → HasData n d → (is_pair d ≡ false) ⊎ (is_two d ≡ false)) → ps ≡ []
       pair_never odd = by h.entries h.left where
         none : (e : List ℕ × Data) → (is_pair (pair_data e) ≡ false) ⊎ (is_two (pair_data e) ≡ false) → ⊥
         none e (inl k) = cc
@@ -78,11 +78,11 @@ module _ (s : PairEntries) (ps : List Spot) (h : HasPairs s ps) where
         by (e ∷ es) left = absurd (none e (odd (pair_data e) (gives (T.items_of (map pair_data (e ∷ es))) left).stands))
 
       pub pair_key : (rows : List Row) (k : Bor (List ℕ)) (v : Node) (r : Part) (way : Way) → r ≡ record { slot = plainly s.key; piece = Q.Text k; is_key = true; way = way }
-          → ((d : Data) → Stands n d → (e : Data) × (d ≡ pair_data (k.now, e)) × Stands v e) → (rest : PairEntries) → rest ≡ record { key = s.key; value = s.value; items = after; place = s.place; held = Some v }
-          → (others : List Spot) × Takes rows ps others r × HasPairs rest others
+          → ((d : Data) → HasData n d → (e : Data) × (d ≡ pair_data (k.now, e)) × HasData v e) → (rest : PairEntries) → rest ≡ record { key = s.key; value = s.value; items = after; place = s.place; held = Some v }
+          → (others : List Spot) × TakesSpot rows ps others r × HasPairs rest others
       pair_key rows k v r way same shape rest is = by h.entries h.left h.few all_left where
         by : (es : List (List ℕ × Data)) → HasItems s.items (T.items_of (map pair_data es)) → s.place + held_count s.held + length es ≤ longest_block
-            → ps ≡ entry_spots MF.ListPairs s.key s.value s.place es → (others : List Spot) × Takes rows ps others r × HasPairs rest others
+            → ps ≡ entry_spots MF.ListPairs s.key s.value s.place es → (others : List Spot) × TakesSpot rows ps others r × HasPairs rest others
         by [] left few all = absurd (gives T.no_items left)
         by (e ∷ es) left few all =
             let x = gives (T.items_of (map pair_data (e ∷ es))) left in
@@ -101,6 +101,6 @@ module _ (s : PairEntries) (ps : List Spot) (h : HasPairs s ps) where
                 entries = es;
                 left = x.left;
                 few = omega (arith, few);
-                is = (e.1, subst (Stands v) (sym parts.1) y.2, refl);
+                is = (e.1, subst (HasData v) (sym parts.1) y.2, refl);
               }),
             )

@@ -3,7 +3,7 @@ use Rattle.std.proofs.Common.{◌≡◌, ◌<◌, ◌++◌, ℕ, ◌+◌, ◌-�
 use Rattle.std.specs.Borrow.{Bor}
 use Rattle.ild_data.specs.Data as T
 use Rattle.ild_data.specs.Data.{Data, Items, items_list, items_of}
-use Rattle.ild_cbor.specs.Nodes.{Stands}
+use Rattle.ild_cbor.specs.Nodes.{HasData}
 use Rattle.ild_cbor.specs.declared.items.Items.{Items as ItemsLeft}
 use Rattle.ild_cbor.specs.declared.kind.Kind.{Kind}
 use Rattle.ild_cbor.specs.declared.kind.Kind.TheVariants as K
@@ -28,8 +28,8 @@ use Rattle.ild_layer_parts.specs.declared.pair_entries.PairEntries.{PairEntries}
 use Rattle.ild_layer_parts.specs.declared.parts.Parts.{Parts}
 use Rattle.ild_layer_pairs.specs.Apart.{IsNamed}
 use Rattle.ild_layer_parts.specs.Elements.{HasElements}
-use Rattle.ild_layer_parts.specs.Entries.{HasEntries, IsHeld, held_count}
-use Rattle.ild_layer_parts.specs.inside.Leaf.{FitsOfKind, IsBehindEntry, IsBehindItem, IsBehindPair, Passes}
+use Rattle.ild_layer_parts.specs.Entries.{HasEntries, FirstIsHeld, held_count}
+use Rattle.ild_layer_parts.specs.inside.Leaf.{FitsOfKind, IsBehindEntry, IsBehindItem, IsBehindPair, PassesOver}
 use Rattle.ild_layer_parts.specs.PairEntries.{HasPairs, IsPairHeld}
 use Rattle.ild_layer_parts.specs.Part.{FitsAnywhere}
 use Rattle.ild_layer_parts.specs.Parts.{HasLeft as PartsLeft, SplitsOff}
@@ -45,11 +45,11 @@ pub kind_fits : (rows : List Row) → IsSchema rows → IsLegible rows → (s : 
 kind_fits rows schema legible s low k tells = λ t kind tree room. plain_shows rows schema legible room s low t tree (λ d is. scalar_plain room d t k (tells d is) kind)
 
 -- nothing is passed over
-pub passes_none : (rows : List Row) (ps : List Spot) (Left : List Spot → Type 0) → Left ps → Passes rows ps Left
+pub passes_none : (rows : List Row) (ps : List Spot) (Left : List Spot → Type 0) → Left ps → PassesOver rows ps Left
 passes_none rows ps Left left = record { taken = []; others = ps; is = refl; fit = tt; left = left }
 
 -- and then some more
-pub passes_more : (rows : List Row) (ps : List Spot) (Front Left : List Spot → Type 0) → Passes rows ps Front → ((qs : List Spot) → Front qs → Passes rows qs Left) → Passes rows ps Left
+pub passes_more : (rows : List Row) (ps : List Spot) (Front Left : List Spot → Type 0) → PassesOver rows ps Front → ((qs : List Spot) → Front qs → PassesOver rows qs Left) → PassesOver rows ps Left
 passes_more rows ps Front Left x more =
     let y = more x.others x.left in
     record { taken = x.taken ++ y.taken; others = y.others; is = x.is ∙ ap (λ qs. x.taken ++ qs) y.is ∙ sym (joined x.taken y.taken y.others); fit = all_join (FitsAnywhere rows) x.taken y.taken x.fit y.fit; left = y.left }
@@ -59,17 +59,17 @@ passes_more rows ps Front Left x more =
     joined (x ∷ xs) ys zs = ap (λ l. x ∷ l) (joined xs ys zs)
 
 -- the parts that are left are told as parts of a piece
-pub passed_off : (rows : List Row) (ps : List Spot) (parts : Parts) → Passes rows ps (PartsLeft rows parts) → SplitsOff rows ps None parts
+pub passed_off : (rows : List Row) (ps : List Spot) (parts : Parts) → PassesOver rows ps (PartsLeft rows parts) → SplitsOff rows ps None parts
 passed_off rows ps parts x = record { taken = x.taken; others = x.others; is = x.is; first = x.fit; left = x.left }
 
 -- ---- the items of a list
 
-pub item_behind : (s : ItemsLeft) (n : Node) (t : ItemsLeft) (k : Kind) → ItemsGive s (Some n) t → ((d : Data) → Stands n d → kind_of d ≡ k) → (ds : Items) → HasItems s ds → IsBehindItem k ds t
+pub item_behind : (s : ItemsLeft) (n : Node) (t : ItemsLeft) (k : Kind) → ItemsGive s (Some n) t → ((d : Data) → HasData n d → kind_of d ≡ k) → (ds : Items) → HasItems s ds → IsBehindItem k ds t
 item_behind s n t k gives kind T.no_items h = absurd (gives T.no_items h)
 item_behind s n t k gives kind (T.item d ds) h = let x = gives (T.item d ds) h in record { first = d; rest = ds; is = refl; kind = kind d x.stands; left = x.left }
 
 pub element_passes : (rows : List Row) (slot : Slot) (k : Kind) → FitsOfKind rows slot k → (s t : ItemsLeft) (at next : ℕ) → next ≡ min (at + 1) (2 ^ 64 - 1) → ((ds : Items) → HasItems s ds → IsBehindItem k ds t) → (ps : List Spot)
-    → HasElements (record { slot = slot; items = s; place = at }) ps → Passes rows ps (HasElements (record { slot = slot; items = t; place = next }))
+    → HasElements (record { slot = slot; items = s; place = at }) ps → PassesOver rows ps (HasElements (record { slot = slot; items = t; place = next }))
 element_passes rows slot k fits s t at next up behind ps h =
     let x = behind h.items h.left in
     let long = ap (λ ds. length (items_list ds)) x.is in
@@ -85,7 +85,7 @@ element_passes rows slot k fits s t at next up behind ps h =
 
 -- ---- the entries of a map
 
-pub entry_behind : (s : MapEntries) (x : Bor (List ℕ) × Node) (t : MapEntries) (k : Kind) → EntriesGive s (Some x) t → ((d : Data) → Stands x.1 d → kind_of d ≡ k) → (es : List (List ℕ × Data)) → HasLeft s es
+pub entry_behind : (s : MapEntries) (x : Bor (List ℕ) × Node) (t : MapEntries) (k : Kind) → EntriesGive s (Some x) t → ((d : Data) → HasData x.1 d → kind_of d ≡ k) → (es : List (List ℕ × Data)) → HasLeft s es
     → IsBehindEntry k es t
 entry_behind s x t k gives kind es h =
     let f = first_left s t x es gives h in
@@ -96,10 +96,10 @@ Open s left = record { key = s.key; value = s.value; left = left; held = None }
 
 pub entries_begin : (s : Entries) (ps : List Spot) → s.held ≡ None → HasEntries s ps → HasEntries (Open s s.left) ps
 entries_begin s ps free h =
-    record { entries = h.entries; left = h.left; at = h.at; is = subst (λ o. IsHeld s o (entry_spots MF.Map s.key s.value h.at h.entries) ps) free h.is }
+    record { entries = h.entries; left = h.left; at = h.at; is = subst (λ o. FirstIsHeld s o (entry_spots MF.Map s.key s.value h.at h.entries) ps) free h.is }
 
 pub entry_passes : (rows : List Row) (s : Entries) (k : Kind) → FitsOfKind rows (plainly s.key) K.Text → FitsOfKind rows s.value k → (left t : MapEntries)
-    → ((es : List (List ℕ × Data)) → HasLeft left es → IsBehindEntry k es t) → (ps : List Spot) → HasEntries (Open s left) ps → Passes rows ps (HasEntries (Open s t))
+    → ((es : List (List ℕ × Data)) → HasLeft left es → IsBehindEntry k es t) → (ps : List Spot) → HasEntries (Open s left) ps → PassesOver rows ps (HasEntries (Open s t))
 entry_passes rows s k keys fits left t behind ps h =
     let x = behind h.entries h.left in
     record {
@@ -112,7 +112,7 @@ entry_passes rows s k keys fits left t behind ps h =
 
 -- ---- the pairs of a list
 
-pub pair_behind : (s : ItemsLeft) (name : List ℕ) (v : Node) (t : ItemsLeft) (k : Kind) → ((ds : Items) → HasItems s ds → IsNamed ds name v t) → ((d : Data) → Stands v d → kind_of d ≡ k)
+pub pair_behind : (s : ItemsLeft) (name : List ℕ) (v : Node) (t : ItemsLeft) (k : Kind) → ((ds : Items) → HasItems s ds → IsNamed ds name v t) → ((d : Data) → HasData v d → kind_of d ≡ k)
     → (es : List (List ℕ × Data)) → HasItems s (items_of (map pair_data es)) → IsBehindPair k es t
 pair_behind s name v t k named kind [] h = let is = (named T.no_items h).is in absurd cc
 pair_behind s name v t k named kind (e ∷ es) h =
@@ -123,7 +123,7 @@ pair_behind s name v t k named kind (e ∷ es) h =
       first = e.1;
       rest = es;
       is = refl;
-      kind = kind e.1 (subst (Stands v) (sym (pair_same e (name, x.first) both.0).1) x.stands);
+      kind = kind e.1 (subst (HasData v) (sym (pair_same e (name, x.first) both.0).1) x.stands);
       left = subst (HasItems t) (sym both.1) x.left;
     }
   where
@@ -140,7 +140,7 @@ pairs_begin s ps free h =
     record { entries = h.entries; left = h.left; few = omega (arith, few, none); is = subst (λ o. IsPairHeld s o h.entries ps) free h.is }
 
 pub pair_passes : (rows : List Row) (s : PairEntries) (k : Kind) → FitsOfKind rows (plainly s.key) K.Text → FitsOfKind rows s.value k → (left t : ItemsLeft) (at next : ℕ) → next ≡ min (at + 1) (2 ^ 64 - 1)
-    → ((es : List (List ℕ × Data)) → HasItems left (items_of (map pair_data es)) → IsBehindPair k es t) → (ps : List Spot) → HasPairs (From s left at) ps → Passes rows ps (HasPairs (From s t next))
+    → ((es : List (List ℕ × Data)) → HasItems left (items_of (map pair_data es)) → IsBehindPair k es t) → (ps : List Spot) → HasPairs (From s left at) ps → PassesOver rows ps (HasPairs (From s t next))
 pair_passes rows s k keys fits left t at next up behind ps h =
     let x = behind h.entries h.left in
     let long = ap (λ (es : List (List ℕ × Data)). length es) x.is in

@@ -14,8 +14,8 @@ use Rattle.ild_layer_parts.specs.declared.entries.Entries.{Entries}
 use Rattle.ild_layer_parts.specs.declared.part.Part.{Part}
 use Rattle.ild_layer_parts.specs.declared.parts.Parts.{Parts}
 use Rattle.ild_layer_places.specs.declared.way.Way.{Way}
-use Rattle.ild_layer_parts.specs.Entries.{HasEntries, IsHeld}
-use Rattle.ild_layer_parts.specs.Part.{IsSpotted, Takes}
+use Rattle.ild_layer_parts.specs.Entries.{HasEntries, FirstIsHeld}
+use Rattle.ild_layer_parts.specs.Part.{IsSpotted, TakesSpot}
 use Rattle.ild_layer_parts.specs.Parts.{HasLeft, LeadsOn, SplitsOff}
 use Rattle.ild_layer_parts.specs.Ways.{LeadsFirst}
 use Rattle.ild_layer_parts.proofs.Leading.{leads_there}
@@ -23,13 +23,13 @@ use Rattle.ild_layer_places.specs.Places.{steps_of}
 
 module _ (s : Entries) (ps : List Spot) (h : HasEntries s ps) (free : s.held ≡ None) where
   all_left : ps ≡ entry_spots MF.Map s.key s.value h.at h.entries
-  all_left = subst (λ o. IsHeld s o (entry_spots MF.Map s.key s.value h.at h.entries) ps) free h.is
+  all_left = subst (λ o. FirstIsHeld s o (entry_spots MF.Map s.key s.value h.at h.entries) ps) free h.is
 
   pub entry_end : (t : MapEntries) → EntriesGive s.left None t → ps ≡ []
   entry_end t gives = all_left ∙ ap (entry_spots MF.Map s.key s.value h.at) (none_left s.left t h.entries gives h.left)
 
   pub key_step : (rows : List Row) (x : Bor (List ℕ) × Node) (t : MapEntries) (r : Part) (way : Way) → r ≡ record { slot = plainly s.key; piece = P.Text x.0; is_key = true; way = way }
-      → EntriesGive s.left (Some x) t → (rest : List Spot) × Takes rows ps rest r × HasEntries (record { key = s.key; value = s.value; left = t; held = Some x }) rest
+      → EntriesGive s.left (Some x) t → (rest : List Spot) × TakesSpot rows ps rest r × HasEntries (record { key = s.key; value = s.value; left = t; held = Some x }) rest
   key_step rows x t r way is gives =
       let f = first_left s.left t x h.entries gives h.left in
       let k : Spot = key_spot s.key x.0.now (key x.0.now ∷ []) in (
@@ -51,11 +51,11 @@ module _ (s : Entries) (ps : List Spot) (h : HasEntries s ps) (free : s.held ≡
 pub value_way : (s : Entries) (ps : List Spot) → HasEntries s ps → (x : Bor (List ℕ) × Node) → s.held ≡ Some x → (r : Part) → steps_of r.way ≡ under x.0.now ∷ [] → LeadsFirst r ps
 value_way s ps h x held r way =
     let behind : List Spot = entry_spots MF.Map s.key s.value h.at h.entries in
-    let k = subst (λ o. IsHeld s o behind ps) held h.is in
+    let k = subst (λ o. FirstIsHeld s o behind ps) held h.is in
     leads_there r ps (value_spot s.value k.0 (under x.0.now ∷ [])) behind k.2 way
 
 -- a part is handed out
-pub takes_off : (rows : List Row) (ps rest : List Spot) (x : Part) (behind : Parts) → Takes rows ps rest x → HasLeft rows behind rest → SplitsOff rows ps (Some x) behind
+pub takes_off : (rows : List Row) (ps rest : List Spot) (x : Part) (behind : Parts) → TakesSpot rows ps rest x → HasLeft rows behind rest → SplitsOff rows ps (Some x) behind
 takes_off rows ps rest x behind k left = record { taken = k.first ∷ []; others = rest; is = k.is; first = (k.first, refl, k.spotted); left = left }
 
 pub leads_as : (rows : List Row) (p q : Parts) (o : Option Part) (ps : List Spot) → p ≡ q → LeadsOn rows q o ps → LeadsOn rows p o ps

@@ -17,7 +17,7 @@ use Rattle.ild_struct.specs.Present.{ArePresent, HasPresent, PresentGives}
 use Rattle.ild_typed.specs.Fields.{is_implicit}
 use Rattle.ild_typed.specs.Spots.{Spot, field_spots, field_steps, value_spot}
 use Rattle.ild_layer_parts.specs.Fields.{FieldsLeft, is_there, written_in}
-use Rattle.ild_layer_parts.specs.inside.Leaf.{IsFitAt, Passes}
+use Rattle.ild_layer_parts.specs.inside.Leaf.{IsFitAt, PassesOver}
 use Rattle.ild_layer_parts.specs.Part.{FitsAnywhere}
 use Rattle.ild_layer_parts.proofs.Lists.{all_got, all_join}
 use Rattle.ild_layer_parts.proofs.FieldSteps.{implicit_fits}
@@ -113,7 +113,7 @@ spots_behind rows form at (suc n) (f ∷ fs) (Some d ∷ os) all =
 
 -- where all written fields in front of a number are values, all fields there are passed over
 pub fields_pass : (rows : List Row) (def : StructDef) (parts : StructParts) (next : ℕ) → next ≡ 0 → (first : ℕ) (ps : List Spot) (h : FieldsLeft rows def parts next ps) (all : List (ℕ × Data)) → ArePresent (fields_of parts) h.held all
-    → AllByRecursion (FitBefore rows def.fields first) all → Passes rows ps (FieldsLeft rows def parts first)
+    → AllByRecursion (FitBefore rows def.fields first) all → PassesOver rows ps (FieldsLeft rows def parts first)
 fields_pass rows def parts next begun first ps h all present fit =
     let x = spots_behind rows def.form 0 first def.fields h.held (λ i f d low known held. own i f d low known held (is_implicit f.implicit d) refl) in
     let begin : ps ≡ field_spots def.form 0 def.fields h.held = h.is ∙ ap (λ n. field_spots def.form (written_in n def.fields h.held) (drop n def.fields) (drop n h.held)) begun in

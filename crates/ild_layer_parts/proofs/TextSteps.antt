@@ -14,7 +14,7 @@ use Rattle.ild_typed.specs.Spots.{Spot, entry_spots, key_spot, value_spot}
 use Rattle.ild_layer_parts.specs.declared.part.Part.{Part}
 use Rattle.ild_layer_parts.specs.declared.text_entries.TextEntries.{TextEntries}
 use Rattle.ild_layer_places.specs.declared.way.Way.{Way}
-use Rattle.ild_layer_parts.specs.Part.{IsSpotted, Takes}
+use Rattle.ild_layer_parts.specs.Part.{IsSpotted, TakesSpot}
 use Rattle.ild_layer_parts.specs.Texts.{HasTexts, IsTextHeld}
 use Rattle.ild_layer_parts.specs.Ways.{LeadsFirst}
 use Rattle.ild_layer_parts.proofs.Leading.{leads_there}
@@ -22,7 +22,7 @@ use Rattle.ild_layer_places.specs.Places.{steps_of}
 
 module _ (s : TextEntries) (ps : List Spot) (h : HasTexts s ps) where
   pub text_value : (rows : List Row) (x : Bor (List ℕ)) (r : Part) (way : Way) → s.held ≡ Some x → r ≡ record { slot = s.value; piece = Q.Text x; is_key = false; way = way }
-      → (rest : TextEntries) → rest ≡ record { key = s.key; value = s.value; split = s.split; held = None } → (others : List Spot) × Takes rows ps others r × HasTexts rest others
+      → (rest : TextEntries) → rest ≡ record { key = s.key; value = s.value; split = s.split; held = None } → (others : List Spot) × TakesSpot rows ps others r × HasTexts rest others
   text_value rows x r way held same rest is =
       let behind : List Spot = entry_spots (MF.StringPairs h.inner h.entry) s.key s.value h.at (text_entries (pairs_in s.split)) in
       let spot : Spot = value_spot s.value (T.text x.now) [] in (
@@ -51,7 +51,7 @@ module _ (s : TextEntries) (ps : List Spot) (h : HasTexts s ps) where
 
     pub text_key : (rows : List Row) (k v : Bor (List ℕ)) (split : PairParts) (r : Part) (way : Way) → r ≡ record { slot = plainly s.key; piece = Q.Text k; is_key = true; way = way }
         → pairs_in s.split ≡ (k.now, v.now) ∷ pairs_in split → (rest : TextEntries) → rest ≡ record { key = s.key; value = s.value; split = split; held = Some v }
-        → (others : List Spot) × Takes rows ps others r × HasTexts rest others
+        → (others : List Spot) × TakesSpot rows ps others r × HasTexts rest others
     text_key rows k v split r way same first rest is =
         let behind : List Spot = entry_spots (MF.StringPairs h.inner h.entry) s.key s.value (h.at + 1) (text_entries (pairs_in split)) in
         let spot : Spot = key_spot s.key k.now [] in (

@@ -15,7 +15,7 @@ use Rattle.ild_typed.specs.Schema.{IsSchema}
 use Rattle.ild_typed.specs.Spots.{Spot}
 use Rattle.std.proofs.lemmas.Option.{same_Some}
 use Rattle.ild_layer_parts.specs.Fields.{FieldsLeft}
-use Rattle.ild_layer_parts.specs.inside.Leaf.{Passes}
+use Rattle.ild_layer_parts.specs.inside.Leaf.{PassesOver}
 use Rattle.ild_layer_parts.specs.Ready.{AreIn, IsIn}
 use Rattle.ild_layer_parts.proofs.Passing.{kind_fits}
 use Rattle.ild_layer_parts.proofs.Lists.{all_got}
@@ -33,7 +33,7 @@ module _ (rows : List Row) (schema : IsSchema rows) (legible : IsLegible rows) (
   told_all (x ∷ xs) all = ((λ less f known tree room. told_fits x all.0 less f known tree room), told_all xs all.1)
 
 pub told_pass : (rows : List Row) → IsSchema rows → IsLegible rows → (def : StructDef) → AreIn rows def.fields → (parts : StructParts) → is_told parts ≡ true → (next : ℕ) → next ≡ 0 → (first : ℕ) (ps : List Spot)
-    → FieldsLeft rows def parts next ps → Passes rows ps (FieldsLeft rows def parts first)
+    → FieldsLeft rows def parts next ps → PassesOver rows ps (FieldsLeft rows def parts first)
 told_pass rows schema legible def low parts e next begun first ps h =
     let t : AreTold rows (fields_of parts) h.held = h.are.told e in
     fields_pass rows def parts next begun first ps h t.parts t.present

@@ -7,7 +7,7 @@ use Rattle.ild_schema.specs.declared.row.Row.{Row}
 use Rattle.ild_typed.specs.Spots.{Spot, element_spots}
 use Rattle.ild_layer_parts.specs.declared.elements.Elements.{Elements}
 use Rattle.ild_layer_parts.specs.declared.part.Part.{Part}
-use Rattle.ild_layer_parts.specs.Part.{Takes}
+use Rattle.ild_layer_parts.specs.Part.{TakesSpot}
 
 abbrev pub elements_left : Elements → ℕ
 elements_left s = s.items.left
@@ -20,4 +20,4 @@ pub record HasElements (s : Elements) (ps : List Spot) : Type 0 where
 
 abbrev pub SplitsElements : List Row → List Spot → Option (Part × Elements) → Type 0
 SplitsElements rows ps None = ps ≡ []
-SplitsElements rows ps (Some r) = (rest : List Spot) × Takes rows ps rest r.0 × HasElements r.1 rest
+SplitsElements rows ps (Some r) = (rest : List Spot) × TakesSpot rows ps rest r.0 × HasElements r.1 rest

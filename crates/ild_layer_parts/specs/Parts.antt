@@ -12,7 +12,7 @@ use Rattle.ild_layer_parts.specs.Fields.{HasFields, IsFieldThere, fields_left}
 use Rattle.ild_layer_parts.specs.Texts.{HasTexts, texts_left}
 use Rattle.ild_layer_parts.specs.PairEntries.{HasPairs, pairs_left}
 use Rattle.ild_layer_parts.specs.Root.{HasRoot, root_left}
-use Rattle.ild_layer_parts.specs.Part.{IsFirst, Takes}
+use Rattle.ild_layer_parts.specs.Part.{IsFirst, TakesSpot}
 use Rattle.ild_layer_parts.specs.Ways.{LeadsFirst, LeadsTo}
 
 abbrev pub parts_left : Parts → ℕ
@@ -31,7 +31,7 @@ HasLeft rows (P.List s) ps = HasElements s ps
 HasLeft rows (P.Map s) ps = HasEntries s ps
 HasLeft rows (P.Root s) ps = HasRoot s ps
 HasLeft rows (P.Struct s) ps = HasFields rows s ps
-HasLeft rows (P.Member x) ps = Takes rows ps [] x × LeadsFirst x ps
+HasLeft rows (P.Member x) ps = TakesSpot rows ps [] x × LeadsFirst x ps
 HasLeft rows (P.Texts s) ps = HasTexts s ps
 HasLeft rows (P.Pairs s) ps = HasPairs s ps
 

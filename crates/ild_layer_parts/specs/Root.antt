@@ -5,7 +5,7 @@ use Rattle.ild_data.specs.Data.{Data}
 use Rattle.ild_data.specs.Trie.{TrieSlot}
 use Rattle.ild_data.specs.declared.hamt_shape.HamtShape.{HamtShape}
 use Rattle.ild_cbor.specs.declared.node.Node.{Node}
-use Rattle.ild_cbor.specs.Nodes.{Stands}
+use Rattle.ild_cbor.specs.Nodes.{HasData}
 use Rattle.ild_node_slots.specs.Steps.{IsAtSlot}
 use Rattle.ild_node_slots.specs.Views.{HasEntries, HasSlots}
 use Rattle.ild_node_slots.specs.declared.bucket.Bucket.{Bucket}
@@ -29,7 +29,7 @@ root_left s = 64 * (s.slots.count - s.slots.next) + bucket_left s.bucket s.entry
 -- the value whose key was handed out goes first
 abbrev pub IsRootHeld : RootEntries → Option (Bor (List ℕ) × Node) → List Spot → List Spot → Type 0
 IsRootHeld s None rest ps = ps ≡ rest
-IsRootHeld s (Some x) rest ps = (d : Data) × (i : ℕ) × (s.entry ≡ i + 1) × Stands x.1 d × (ps ≡ value_spot s.value d (in_node s.element i 1) ∷ rest)
+IsRootHeld s (Some x) rest ps = (d : Data) × (i : ℕ) × (s.entry ≡ i + 1) × HasData x.1 d × (ps ≡ value_spot s.value d (in_node s.element i 1) ∷ rest)
 
 -- then the bucket, and the slots behind it
 abbrev pub IsBucketLeft : RootEntries → Option Bucket → List TrieSlot → List Spot → Type 0

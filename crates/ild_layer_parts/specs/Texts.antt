@@ -10,7 +10,7 @@ use Rattle.ild_typed.specs.Spots.{Spot, entry_spots, value_spot}
 use Rattle.ild_layer_parts.specs.declared.part.Part.{Part}
 use Rattle.ild_layer_parts.specs.declared.text_entries.TextEntries.{TextEntries}
 use Rattle.ild_layer_parts.specs.Entries.{held_count}
-use Rattle.ild_layer_parts.specs.Part.{Takes}
+use Rattle.ild_layer_parts.specs.Part.{TakesSpot}
 
 abbrev pub texts_left : TextEntries → ℕ
 texts_left s = 2 * length (pairs_in s.split) + held_count s.held
@@ -28,4 +28,4 @@ pub record HasTexts (s : TextEntries) (ps : List Spot) : Type 0 where
 
 abbrev pub SplitsTexts : List Row → List Spot → Option (Part × TextEntries) → Type 0
 SplitsTexts rows ps None = ps ≡ []
-SplitsTexts rows ps (Some r) = (rest : List Spot) × Takes rows ps rest r.0 × HasTexts r.1 rest
+SplitsTexts rows ps (Some r) = (rest : List Spot) × TakesSpot rows ps rest r.0 × HasTexts r.1 rest

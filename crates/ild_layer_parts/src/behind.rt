@@ -12,7 +12,7 @@ ghost use Rattle.ild_typed.specs.Strings.{pair_data};
 ghost use Rattle.ild_layer_parts.specs.Elements.{HasElements};
 ghost use Rattle.ild_layer_parts.specs.Entries.{HasEntries};
 ghost use Rattle.ild_layer_parts.specs.Inside.{AreInside};
-ghost use Rattle.ild_layer_parts.specs.inside.Leaf.{BehindEntry, BehindItem, BehindPair, FitsOfKind, Passes};
+ghost use Rattle.ild_layer_parts.specs.inside.Leaf.{BehindEntry, BehindItem, BehindPair, FitsOfKind, PassesOver};
 ghost use Rattle.ild_layer_parts.specs.PairEntries.{HasPairs};
 ghost use Rattle.ild_layer_parts.specs.Parts.{HasLeft, SplitsOff};
 ghost use Rattle.ild_layer_parts.specs.Ready.{AreReady, IsIn};
@@ -71,7 +71,7 @@ fn behind_pair<'b>(items: &Items<'b>, wanted: Kind) -> Option<Items<'b>>
 
 // The elements behind the first ones that have a kind.
 fn behind_elements<'b>(elements: Elements<'b>, wanted: Kind) -> Elements<'b>
-    ensures passes { (rows : List Row) (ps : List Spot) → FitsOfKind rows elements.entry.slot wanted → HasElements elements.entry ps → Passes rows ps (HasElements result) }
+    ensures passes { (rows : List Row) (ps : List Spot) → FitsOfKind rows elements.entry.slot wanted → HasElements elements.entry ps → PassesOver rows ps (HasElements result) }
     ensures slot { result.slot ≡ elements.entry.slot }
 {
     let mut items = elements.items;
@@ -91,7 +91,7 @@ fn behind_elements<'b>(elements: Elements<'b>, wanted: Kind) -> Elements<'b>
 fn behind_entries<'b>(entries: Entries<'b>, wanted: Kind) -> Entries<'b>
     requires { entries.held ≡ None }
     ensures passes { (rows : List Row) (ps : List Spot) → FitsOfKind rows (plainly entries.entry.key) K.Text
-        → FitsOfKind rows entries.entry.value wanted → HasEntries entries.entry ps → Passes rows ps (HasEntries result) }
+        → FitsOfKind rows entries.entry.value wanted → HasEntries entries.entry ps → PassesOver rows ps (HasEntries result) }
     ensures key { result.key ≡ entries.entry.key }
     ensures value { result.value ≡ entries.entry.value }
 {
@@ -111,7 +111,7 @@ fn behind_entries<'b>(entries: Entries<'b>, wanted: Kind) -> Entries<'b>
 fn behind_pairs<'b>(pairs: PairEntries<'b>, wanted: Kind) -> PairEntries<'b>
     requires { pairs.held ≡ None }
     ensures passes { (rows : List Row) (ps : List Spot) → FitsOfKind rows (plainly pairs.entry.key) K.Text
-        → FitsOfKind rows pairs.entry.value wanted → HasPairs pairs.entry ps → Passes rows ps (HasPairs result) }
+        → FitsOfKind rows pairs.entry.value wanted → HasPairs pairs.entry ps → PassesOver rows ps (HasPairs result) }
     ensures key { result.key ≡ pairs.entry.key }
     ensures value { result.value ≡ pairs.entry.value }
 {
@@ -133,7 +133,7 @@ fn behind_pairs<'b>(pairs: PairEntries<'b>, wanted: Kind) -> PairEntries<'b>
 // The elements behind the first ones that are leaves.
 fn past_elements<'b>(acc: &'b Accepted, elements: Elements<'b>) -> Elements<'b>
     requires { IsIn acc.now elements.slot }
-    ensures passes { (ps : List Spot) → HasElements elements.entry ps → Passes acc.now ps (HasElements result) }
+    ensures passes { (ps : List Spot) → HasElements elements.entry ps → PassesOver acc.now ps (HasElements result) }
     ensures slot { result.slot ≡ elements.entry.slot }
 {
     match leaf_kind(acc, elements.slot) {
@@ -163,7 +163,7 @@ fn leaf_value(acc: &Accepted, key: TypeNo, value: Slot) -> Option<Kind>
 fn past_pairs<'b>(acc: &'b Accepted, pairs: PairEntries<'b>) -> PairEntries<'b>
     requires key { IsIn acc.now (plainly pairs.key) }
     requires value { IsIn acc.now pairs.value }
-    ensures passes { (ps : List Spot) → HasPairs pairs.entry ps → Passes acc.now ps (HasPairs result) }
+    ensures passes { (ps : List Spot) → HasPairs pairs.entry ps → PassesOver acc.now ps (HasPairs result) }
     ensures key { result.key ≡ pairs.entry.key }
     ensures value { result.value ≡ pairs.entry.value }
 {
@@ -181,7 +181,7 @@ fn past_pairs<'b>(acc: &'b Accepted, pairs: PairEntries<'b>) -> PairEntries<'b>
 fn past_entries<'b>(acc: &'b Accepted, entries: Entries<'b>) -> Entries<'b>
     requires key { IsIn acc.now (plainly entries.key) }
     requires value { IsIn acc.now entries.value }
-    ensures passes { (ps : List Spot) → HasEntries entries.entry ps → Passes acc.now ps (HasEntries result) }
+    ensures passes { (ps : List Spot) → HasEntries entries.entry ps → PassesOver acc.now ps (HasEntries result) }
     ensures key { result.key ≡ entries.entry.key }
     ensures value { result.value ≡ entries.entry.value }
 {

@@ -7,7 +7,7 @@ ghost use Rattle.ild_schema.specs.Legible.{IsLegible};
 ghost use Rattle.ild_schema.specs.declared.def.Field.{Field as Schema};
 ghost use Rattle.ild_schema.specs.declared.def.TypeDef.TheVariants as D;
 ghost use Rattle.ild_schema.specs.declared.row.Row.{Row};
-ghost use Rattle.ild_struct.specs.Parts.{HasNumber, HasParts, IsPart, fields_of};
+ghost use Rattle.ild_struct.specs.Parts.{HasNumber, HasParts, IsFieldPart, fields_of};
 ghost use Rattle.ild_typed.specs.Spots.{Spot, field_spots};
 ghost use Rattle.ild_union.specs.Forms.{passes_over};
 ghost use Rattle.ild_layer_parts.specs.Fields.{Handed, HasFields, SplitsFields, fields_left};
@@ -25,7 +25,7 @@ use ild_struct::{Part as Held, StructParts};
 
 // The piece that stands for a field, where one does.
 fn piece_of(held: Held<'_>) -> Option<Piece<'_>>
-    ensures part { (rows : List Row) (f : Schema) (o : Option Data) → IsPart rows f o held.entry → Handed rows f o result }
+    ensures part { (rows : List Row) (f : Schema) (o : Option Data) → IsFieldPart rows f o held.entry → Handed rows f o result }
     ensures plain { HasNumber [] held.entry → IfSome result (λ p. passes_over p ≡ false) }
 {
     match held {

@@ -4,7 +4,7 @@ ghost use Rattle.ild_data.specs.Data.{Data};
 ghost use Rattle.ild_layer_places.specs.Places.{steps_of};
 ghost use Rattle.ild_schema.specs.declared.def.Field.{Field as Schema};
 ghost use Rattle.ild_schema.specs.declared.row.Row.{Row};
-ghost use Rattle.ild_struct.specs.Parts.{IsPart};
+ghost use Rattle.ild_struct.specs.Parts.{IsFieldPart};
 ghost use Rattle.ild_typed.specs.Spots.{Spot, field_steps};
 ghost use Rattle.ild_layer_parts.specs.Fields.{HasFields, count_there, is_there, written_in};
 ghost use Rattle.ild_layer_parts.specs.Ways.{LeadsWay};
@@ -16,7 +16,7 @@ use ild_struct::Part as Held;
 
 // Whether a field stands in the data.
 fn is_written(held: &Held<'_>) -> bool
-    ensures { (rows : List Row) (f : Schema) (o : Option Data) → IsPart rows f o held.now → result ≡ is_there f o }
+    ensures { (rows : List Row) (f : Schema) (o : Option Data) → IsFieldPart rows f o held.now → result ≡ is_there f o }
 {
     match held {
         Held::Absent | Held::Implicit => false,
@@ -26,7 +26,7 @@ fn is_written(held: &Held<'_>) -> bool
 
 // One where a field stands in the data, else none.
 fn count(held: &Held<'_>) -> usize
-    ensures there { (rows : List Row) (f : Schema) (o : Option Data) → IsPart rows f o held.now → result ≡ count_there f o }
+    ensures there { (rows : List Row) (f : Schema) (o : Option Data) → IsFieldPart rows f o held.now → result ≡ count_there f o }
     ensures most { result ≤ 1 }
 {
     if is_written(held) { 1 } else { 0 }

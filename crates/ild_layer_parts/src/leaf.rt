@@ -4,7 +4,7 @@ ghost use Rattle.ild_data.specs.Data.{Data};
 ghost use Rattle.ild_data.specs.Tree.{IsTree};
 ghost use Rattle.ild_layer_piece.specs.Pieces.{StandsFor};
 ghost use Rattle.ild_typed.specs.Fits.{Fits};
-ghost use Rattle.ild_typed.specs.Layers.{Shows};
+ghost use Rattle.ild_typed.specs.Layers.{RepresentsSome};
 ghost use Rattle.ild_layer_parts.specs.inside.Leaf.{FitsOfKind};
 ghost use Rattle.ild_layer_parts.specs.Ready.{IsIn};
 
@@ -31,7 +31,7 @@ pub(crate) fn leaf_kind(acc: &Accepted, slot: Slot) -> Option<Kind>
 /// Whether a piece is a value of a slot that its kind alone tells.
 pub fn is_leaf(acc: &Accepted, slot: Slot, piece: &Piece<'_>) -> bool
     requires { IsIn acc.now slot }
-    ensures { result ≡ true → (t : Data) → StandsFor acc.now piece.now t → IsTree t → (room : ℕ) → Shows (Fits acc.now room) acc.now slot t }
+    ensures { result ≡ true → (t : Data) → StandsFor acc.now piece.now t → IsTree t → (room : ℕ) → RepresentsSome (Fits acc.now room) acc.now slot t }
 {
     match leaf_kind(acc, slot) {
         Some(wanted) => {

@@ -5,7 +5,7 @@ ghost use Rattle.ild_layer_piece.specs.Pieces.{StandsFor};
 ghost use Rattle.ild_struct.specs.Parts.{is_told};
 ghost use Rattle.ild_typed.specs.Spots.{Spot};
 ghost use Rattle.ild_layer_parts.specs.Fields.{HasFields};
-ghost use Rattle.ild_layer_parts.specs.inside.Leaf.{IsFitAt, Passes};
+ghost use Rattle.ild_layer_parts.specs.inside.Leaf.{IsFitAt, PassesOver};
 ghost use Rattle.ild_layer_parts.specs.Ready.{AreIn};
 
 use crate::fields::Fields;
@@ -37,7 +37,7 @@ fn past_all<'b>(acc: &'b Accepted, fields: Fields<'b>) -> Fields<'b>
     requires low { AreIn acc.now fields.def.now.fields }
     requires begun { fields.next ≡ 0 }
     requires told { is_told fields.parts ≡ true }
-    ensures passes { (ps : List Spot) → HasFields acc.now fields.entry ps → Passes acc.now ps (HasFields acc.now result) }
+    ensures passes { (ps : List Spot) → HasFields acc.now fields.entry ps → PassesOver acc.now ps (HasFields acc.now result) }
     ensures def { result.def.now ≡ fields.entry.def.now }
 {
     acc.recall();
@@ -51,7 +51,7 @@ fn past_all<'b>(acc: &'b Accepted, fields: Fields<'b>) -> Fields<'b>
 /// The fields from the first one on that is written and no leaf.
 pub(crate) fn past_fields<'b>(acc: &'b Accepted, fields: Fields<'b>) -> Fields<'b>
     requires { AreIn acc.now fields.def.now.fields }
-    ensures passes { (ps : List Spot) → HasFields acc.now fields.entry ps → Passes acc.now ps (HasFields acc.now result) }
+    ensures passes { (ps : List Spot) → HasFields acc.now fields.entry ps → PassesOver acc.now ps (HasFields acc.now result) }
     ensures def { result.def.now ≡ fields.entry.def.now }
 {
     if fields.next > 0 {

@@ -14,7 +14,7 @@ use Rattle.ild_cbor.specs.declared.items.Items.{Items}
 use Rattle.ild_cbor.specs.declared.piece.Piece.{Piece}
 use Rattle.ild_cbor.specs.declared.piece.Piece.TheVariants as P
 use Rattle.ild_cbor.specs.declared.pairs.Pairs.{Pairs}
-use Rattle.ild_cbor.specs.Nodes.{Finds, Stands}
+use Rattle.ild_cbor.specs.Nodes.{Finds, HasData}
 use Rattle.ild_cbor.specs.Span.{entry_of}
 use Rattle.ild_cbor.specs.Steps.{HasItems, HasEntries, FindsItems, FindsEntries, items_of, members_of as entries_of}
 use Rattle.ild_schema.specs.declared.row.Row.{Row}
@@ -99,7 +99,7 @@ left_members : (passed : Option (List ℕ)) (n : Node) (t : Data) (h : IsWithout
 left_members passed n t h = ap members_in h.rest ∙ members_back (without h.key (members_list h.entries))
 
 pub left_maps : (passed : Option (List ℕ)) (n : Node) (t : Data) (p : Pairs) (k : Option (Bor (List ℕ))) → option_map (λ (b : Bor (List ℕ)). b.now) k ≡ passed
-    → ((d : Data) → Stands n d → FindsEntries n (entries_of d) (Some p)) → IsWithout passed n t → Maps (members_in t) (Some (record { pairs = p; passed = k }))
+    → ((d : Data) → HasData n d → FindsEntries n (entries_of d) (Some p)) → IsWithout passed n t → Maps (members_in t) (Some (record { pairs = p; passed = k }))
 left_maps passed n t p None is found h = absurd (let e : None ≡ Some h.key = is ∙ h.key_is in cc)
 left_maps passed n t p (Some k) is found h =
     let same : k.now ≡ h.key = same_Some k.now h.key (is ∙ h.key_is) in
@@ -109,7 +109,7 @@ left_maps passed n t p (Some k) is found h =
     subst (λ o. Maps o (Some (record { pairs = p; passed = Some k }))) (sym (left_members passed n t h)) all
 
 -- a map has entries
-pub has_maps : (passed : Option (List ℕ)) (n : Node) (t : Data) → ((d : Data) → Stands n d → FindsEntries n (entries_of d) None) → IsWithout passed n t → ⊥
+pub has_maps : (passed : Option (List ℕ)) (n : Node) (t : Data) → ((d : Data) → HasData n d → FindsEntries n (entries_of d) None) → IsWithout passed n t → ⊥
 has_maps passed n t found h = found (T.map h.entries) h.stands
 
 left_value : (passed : Option (List ℕ)) (n : Node) (t : Data) (key : List ℕ)
@@ -128,7 +128,7 @@ passed_none passed n t key at h =
 
 -- and no other entry is
 pub passed_other : (passed : Option (List ℕ)) (n : Node) (t : Data) (key : List ℕ) (r : Option Node) → is_key key passed ≡ false
-    → ((d : Data) → Stands n d → Found (option_and_then (value_at key) (members_in d)) r) → IsWithout passed n t → Found (option_and_then (value_at key) (members_in t)) r
+    → ((d : Data) → HasData n d → Found (option_and_then (value_at key) (members_in d)) r) → IsWithout passed n t → Found (option_and_then (value_at key) (members_in t)) r
 passed_other passed n t key r at found h =
     let same : option_and_then (value_at key) (members_in t) ≡ value_at key (members_list h.entries) =
     left_value passed n t key h ∙ ap (λ b. cond b None (value_at key (members_list h.entries))) at in

@@ -6,10 +6,10 @@ use Rattle.ild_data.specs.Data as T
 use Rattle.ild_data.specs.Data.{Data}
 use Rattle.ild_data.specs.Key.{Rises}
 use Rattle.ild_cbor.specs.declared.node.Node.{Node}
-use Rattle.ild_cbor.specs.Nodes.{Stands}
+use Rattle.ild_cbor.specs.Nodes.{HasData}
 use Rattle.ild_schema.specs.declared.def.KindWord.TheVariants as K
 use Rattle.ild_schema.specs.DataKinds.{same_kind}
-use Rattle.ild_typed.specs.Kinds.{kind_of}
+use Rattle.ild_typed.specs.Kinds.{kind_word_of}
 use Rattle.ild_typed.specs.Strings.{members_in}
 use Rattle.ild_typed.specs.WhyLaws.{KeysRise}
 use Rattle.ild_layer_piece.specs.declared.walk.MapEntries.{MapEntries}
@@ -29,11 +29,11 @@ pub not_walked : (t : Data) → Maps (members_in t) None → members_in t ≡ No
 not_walked (T.map ms) h = absurd h
 not_walked t h = refl
 
-pub map_kind : (t : Data) (es : List (List ℕ × Data)) → members_in t ≡ Some es → same_kind K.Map (kind_of t) ≡ true
+pub map_kind : (t : Data) (es : List (List ℕ × Data)) → members_in t ≡ Some es → same_kind K.Map (kind_word_of t) ≡ true
 map_kind (T.map ms) es e = refl
 map_kind t es e = absurd (none-some es e)
 
-pub other_kind : (t : Data) → members_in t ≡ None → same_kind K.Map (kind_of t) ≡ false
+pub other_kind : (t : Data) → members_in t ≡ None → same_kind K.Map (kind_word_of t) ≡ false
 other_kind (T.map ms) e = absurd (none-some (T.members_list ms) (sym e))
 other_kind t e = refl
 
@@ -47,7 +47,7 @@ pub record FirstLeft (x : Bor (List ℕ) × Node) (after : MapEntries) (es : Lis
   pub value : Data
   pub rest : List (List ℕ × Data)
   pub is : es ≡ (x.0.now, value) ∷ rest
-  pub stands : Stands x.1 value
+  pub stands : HasData x.1 value
   pub left : HasLeft after rest
 
 pub first_left : (s after : MapEntries) (x : Bor (List ℕ) × Node) (es : List (List ℕ × Data)) → EntriesGive s (Some x) after → HasLeft s es → FirstLeft x after es

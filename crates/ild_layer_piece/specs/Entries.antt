@@ -6,13 +6,13 @@ use Rattle.ild_data.specs.Data.{Data, Members, members_list}
 use Rattle.ild_data.specs.Key.{without}
 use Rattle.ild_cbor.specs.declared.node.Node.{Node}
 use Rattle.ild_cbor.specs.declared.items.Items.{Items}
-use Rattle.ild_cbor.specs.Nodes.{Stands}
+use Rattle.ild_cbor.specs.Nodes.{HasData}
 use Rattle.ild_cbor.specs.Steps.{HasItems, HasEntries}
 use Rattle.ild_layer_piece.specs.declared.walk.MapEntries.{MapEntries}
 
 -- the node stands for the data that were sought, where they are there
 abbrev pub Found : Option Data → Option Node → Type 0
-Found (Some d) (Some n) = Stands n d
+Found (Some d) (Some n) = HasData n d
 Found None None = Unit {0}
 Found (Some d) None = ⊥
 Found None (Some n) = ⊥
@@ -38,7 +38,7 @@ pub record HasLeft (s : MapEntries) (es : List (List ℕ × Data)) : Type 0 wher
 -- a key, a node for its value, and an iterator that has the others left
 pub record StepsOver (k : List ℕ) (d : Data) (es : List (List ℕ × Data)) (key : List ℕ) (n : Node) (t : MapEntries) : Type 0 where
   pub key_is : key ≡ k
-  pub stands : Stands n d
+  pub stands : HasData n d
   pub left : HasLeft t es
 
 abbrev pub EntryStep : List (List ℕ × Data) → Option (Bor (List ℕ) × Node) → MapEntries → Type 0

@@ -7,7 +7,7 @@ use Rattle.ild_data.specs.Key.{same_text, value_at, without}
 use Rattle.ild_cbor.specs.declared.node.Node.{Node}
 use Rattle.ild_cbor.specs.declared.piece.Piece.{Piece}
 use Rattle.ild_cbor.specs.declared.piece.Piece.TheVariants as P
-use Rattle.ild_cbor.specs.Nodes.{Stands}
+use Rattle.ild_cbor.specs.Nodes.{HasData}
 use Rattle.ild_schema.specs.declared.def.TypeDef.{TypeDef}
 use Rattle.ild_schema.specs.declared.def.TypeDef.TheVariants as D
 use Rattle.ild_schema.specs.declared.def.UnionForm.{UnionForm}
@@ -39,12 +39,12 @@ pub record IsWithout (passed : Option (List ℕ)) (n : Node) (t : Data) : Type 0
   pub key : List ℕ
   pub key_is : passed ≡ Some key
   pub entries : Members
-  pub stands : Stands n (T.map entries)
+  pub stands : HasData n (T.map entries)
   pub has : is_some (value_at key (members_list entries)) ≡ true
   pub rest : t ≡ map_data (without key (members_list entries))
 
 abbrev pub StandsFor : List Row → Piece → Data → Type 0
-StandsFor rows (P.Node n) t = Stands n t
+StandsFor rows (P.Node n) t = HasData n t
 StandsFor rows (P.Text s) t = t ≡ T.text s.now
 StandsFor rows (P.Bytes s) t = t ≡ T.bytes s.now
 StandsFor rows (P.Inline n u) t = IsWithout (passed_key rows u) n t

@@ -2,7 +2,7 @@
 use Rattle.std.proofs.Common.{◌≡◌, ℕ, ◌+◌, ◌≤◌, List, [], ◌++◌, length, Some, sym, ◌∙◌, ap, subst, arith, inl, inr}
 use Rattle.std.proofs.lemmas.List.{append-nil}
 use Rattle.std.proofs.lemmas.Option.{same_Some}
-use Rattle.ild_cbor.specs.Nodes.{Stands}
+use Rattle.ild_cbor.specs.Nodes.{HasData}
 use Rattle.ild_cbor.specs.declared.node.Node.{Node}
 use Rattle.ild_cbor.specs.declared.piece.Piece.{Piece}
 use Rattle.ild_cbor.specs.declared.piece.Piece.TheVariants as P
@@ -35,11 +35,11 @@ stays y at way k j none zero_more h =
     let same : k ≡ k + j = omega (arith, zero_more) in
     subst (PlacedAt y (at ++ way)) same (subst (λ w. PlacedAt y w k) (sym (ap (λ w. at ++ w) none ∙ append-nil at)) h)
 
-pub one_tree : (n : Node) (d e : Data) → Stands n d → Stands n e → d ≡ e
+pub one_tree : (n : Node) (d e : Data) → HasData n d → HasData n e → d ≡ e
 one_tree n d e p q = one_tree_lem _ _ _ _ d e p q
 
 module _ (rows : List Row) (y x : Piece) (t d : Data) (at way : List Step) (k j : ℕ) (outer : StandsFor rows y t) (inner : StandsFor rows x d) (leads : Leads way d) (here : PlacedAt y at k) where
-  item_joined : (m : Node) → Stands m d → EndsIn y at d → PlacedAt (P.Node m) way j → PlacedAt y (at ++ way) (k + j)
+  item_joined : (m : Node) → HasData m d → EndsIn y at d → PlacedAt (P.Node m) way j → PlacedAt y (at ++ way) (k + j)
   item_joined m stands ends own = by y ends here where
     by : (z : Piece) → EndsIn z at d → PlacedAt z at k → PlacedAt z (at ++ way) (k + j)
     by (P.Node n) each place = λ w there. joined w d at way k j (each w there) (place w there) (own d stands)

@@ -27,13 +27,13 @@ use Rattle.ild_schema.specs.declared.def.UnionForm.TheVariants as UF
 use Rattle.ild_schema.specs.declared.def.Field.{Field}
 use Rattle.ild_schema.specs.declared.def.Member.{Member}
 use Rattle.ild_schema.specs.declared.def.Scalar.{Scalar}
-use Rattle.ild_schema.specs.Marks.{field_text, text_of as mark_text, kind_of as mark_kind}
+use Rattle.ild_schema.specs.Marks.{field_text, mark_text, mark_kind}
 use Rattle.ild_schema.specs.DataKinds.{same_kind}
 use Rattle.ild_schema.specs.Hex.{bytes_of_hex}
 use Rattle.ild_schema.specs.Clear.{AreNamesApart, ClearStruct, KeysApart, ClearType}
 use Rattle.ild_typed.specs.Layer as L
 use Rattle.ild_typed.specs.Layer.{Layer, as_list, as_map, as_struct, as_union}
-use Rattle.ild_typed.specs.Kinds.{kind_of}
+use Rattle.ild_typed.specs.Kinds.{kind_word_of}
 use Rattle.ild_typed.specs.Slots.{slot_of}
 use Rattle.ild_typed.specs.Texts.{join, join_pairs}
 use Rattle.ild_typed.specs.Fields.{is_implicit, field_entries, are_absent, tuple_items, all_items}
@@ -323,8 +323,8 @@ marked_end s (UF.Inline k) d t m name keys is e =
 
 member_end : (s : Slot) (form : UnionForm) (d t : Data) (m : Member) → KeysApart form → member_form form d m ≡ Some t → EndsAt (is_some (form_key form)) t (value_spot s d (member_steps form m))
 member_end s UF.Kinded d t m keys e =
-    let y = then_from (λ k. cond (same_kind k (kind_of d)) (Some d) None) (mark_kind m.mark) t e in
-    inr (refl, inl (true_from (same_kind y.item (kind_of d)) d t y.made).1)
+    let y = then_from (λ k. cond (same_kind k (kind_word_of d)) (Some d) None) (mark_kind m.mark) t e in
+    inr (refl, inl (true_from (same_kind y.item (kind_word_of d)) d t y.made).1)
 member_end s UF.Keyed d t m keys e = let y = then_from (marked_form UF.Keyed d) (mark_text m.mark) t e in marked_end s UF.Keyed d t m y.item keys y.there y.made
 member_end s UF.StringPrefix d t m keys e = let y = then_from (marked_form UF.StringPrefix d) (mark_text m.mark) t e in marked_end s UF.StringPrefix d t m y.item keys y.there y.made
 member_end s UF.BytesPrefix d t m keys e = let y = then_from (marked_form UF.BytesPrefix d) (mark_text m.mark) t e in marked_end s UF.BytesPrefix d t m y.item keys y.there y.made

@@ -2,7 +2,7 @@
 use Rattle.std.proofs.Common.{◌≡◌, ℕ, ◌+◌, List, [], ◌∷◌, ◌++◌, length, Bool, true, false, cond, Some, refl, sym, ◌∙◌, ap, subst, inl, inr}
 use Rattle.std.specs.Cmp.Lexicographic.{same_text as text_same}
 use Rattle.std.proofs.lemmas.Option.{same_Some, none-some}
-use Rattle.ild_cbor.specs.Nodes.{Stands}
+use Rattle.ild_cbor.specs.Nodes.{HasData}
 use Rattle.ild_cbor.specs.declared.node.Node.{Node}
 use Rattle.ild_cbor.specs.declared.piece.Piece.{Piece}
 use Rattle.ild_cbor.specs.declared.piece.Piece.TheVariants as P
@@ -116,17 +116,17 @@ module _ (rows : List Row) (n : Node) (u : ℕ) (t : Data) (stands : StandsFor r
   abbrev entry_list : List (List ℕ × Data)
   entry_list = T.members_list stands.entries
 
-  whole_is : (w : Data) → Stands n w → map_data entry_list ≡ w
+  whole_is : (w : Data) → HasData n w → map_data entry_list ≡ w
   whole_is w there = ap T.map (members_of-members_list stands.entries) ∙ one_tree n (T.map stands.entries) w stands.stands there
 
-  node_ends : (way : List Step) (d : Data) → EndsBelow way t d → (w : Data) → Stands n w → Ends way w d
+  node_ends : (way : List Step) (d : Data) → EndsBelow way t d → (w : Data) → HasData n w → Ends way w d
   node_ends way d e w there =
       let rises : Rises entry_list = rises_list entry_list (subst IsTree (sym (ap T.map (members_of-members_list stands.entries))) stands.stands.within.tree) in
       let own : Ends (e.step ∷ e.rest) (map_data (without stands.key entry_list)) d = subst (λ v. Ends v (map_data (without stands.key entry_list)) d) e.is (subst (λ v. Ends way v d) stands.rest e.ends) in
       subst (λ v. Ends way v d) (whole_is w there)
       (subst (λ v. Ends v (map_data entry_list) d) (sym e.is) (inlined_ends (without stands.key entry_list) entry_list (less_found stands.key entry_list rises) e.step e.rest d own))
 
-  node_leads : (way : List Step) → Leads way t → (w : Data) → Stands n w → Leads way w
+  node_leads : (way : List Step) → Leads way t → (w : Data) → HasData n w → Leads way w
   node_leads [] l w there = ((0, w), refl)
   node_leads (s ∷ way) l w there =
       let e = node_ends (s ∷ way) l.0.1 (record { step = s; rest = way; is = refl; ends = (l.0.0, l.1) }) w there in

@@ -3,7 +3,7 @@ use Rattle.std.proofs.Common.{◌≡◌, ℕ, zero, suc, ◌+◌, List, [], ◌�
 use Rattle.std.specs.Prelude.{slice_get, option_and_then}
 use Rattle.std.specs.Cmp.Lexicographic.{same_text as text_same}
 use Rattle.std.proofs.lemmas.Option.{same_Some, none-some}
-use Rattle.ild_cbor.specs.Nodes.{Stands, Finds as NodeFinds, start_of}
+use Rattle.ild_cbor.specs.Nodes.{HasData, Finds as NodeFinds, start_of}
 use Rattle.ild_cbor.specs.Span.{entry_of, index_of, item_of, items_before, key_index, place_of, values_before}
 use Rattle.ild_cbor.specs.declared.node.Node.{Node}
 use Rattle.ild_data.specs.Data as T
@@ -14,7 +14,7 @@ use Rattle.ild_typed.specs.Spots.{Step, item, key, under}
 use Rattle.ild_typed.specs.Ways.{found_at, item_in, key_in, moved, step_in, value_in}
 use Rattle.ild_typed.proofs.Basics.{map_from, then_from}
 use Rattle.ild_typed.specs.WayLaws.{Leads}
-use Rattle.ild_layer_places.specs.Places.{BeginsAt, Finds, IsFound}
+use Rattle.ild_layer_places.specs.Places.{BeginsAt, WayFinds, IsFound}
 
 pub length_both : (a b : List ℕ) → length (a ++ b) ≡ length a + length b
 length_both [] b = let e : length b ≡ zero + length b = omega arith in e
@@ -181,7 +181,7 @@ further_on : (n m : Node) (q j p : ℕ) (d : Data) (r : Option Node) → start_o
 further_on n m q j p d (Some x) at sum h = let here = h.1 in (h.0, omega (arith, at, sum, here))
 further_on n m q j p d None at sum h = h
 
-pub finds_item : (n m : Node) (w : Data) (way : List Step) (i : ℕ) (r : Option Node) → ((t : Data) → Stands m t → NodeFinds m (place_of t i) (item_of t i) r) → Finds n w way (Some m) → Finds n w (way ++ (item i ∷ [])) r
+pub finds_item : (n m : Node) (w : Data) (way : List Step) (i : ℕ) (r : Option Node) → ((t : Data) → HasData m t → NodeFinds m (place_of t i) (item_of t i) r) → WayFinds n w way (Some m) → WayFinds n w (way ++ (item i ∷ [])) r
 finds_item n m w way i r gives all p d e =
     let s = found_split way (item i ∷ []) w p d e in
     let own = all s.at s.mid s.first in
@@ -189,26 +189,26 @@ finds_item n m w way i r gives all p d e =
     let found : NodeFinds m s.on (Some d) r = subst (λ q. NodeFinds m q (Some d) r) it.1 (subst (λ o. NodeFinds m (place_of s.mid i) o r) it.0 (gives s.mid own.0)) in
     further_on n m s.at s.on p d r own.1 s.sum (as_found m s.on d r found)
 
-pub finds_none : (n : Node) (w : Data) (way : List Step) (i : ℕ) → Finds n w way None → Finds n w (way ++ (item i ∷ [])) None
+pub finds_none : (n : Node) (w : Data) (way : List Step) (i : ℕ) → WayFinds n w way None → WayFinds n w (way ++ (item i ∷ [])) None
 finds_none n w way i all p d e = let s = found_split way (item i ∷ []) w p d e in all s.at s.mid s.first
 
-pub finds_value : (n : Node) (w : Data) (k : List ℕ) (r : Option Node) → ((t : Data) → Stands n t → NodeFinds n (place_of t (index_of k t)) (entry_of t k) r) → Stands n w → Finds n w (under k ∷ []) r
+pub finds_value : (n : Node) (w : Data) (k : List ℕ) (r : Option Node) → ((t : Data) → HasData n t → NodeFinds n (place_of t (index_of k t)) (entry_of t k) r) → HasData n w → WayFinds n w (under k ∷ []) r
 finds_value n w k r gives stands p d e =
     let it = value_there w k p d (one_step (under k) w p d e) in
     as_found n p d r (subst (λ q. NodeFinds n q (Some d) r) it.1 (subst (λ o. NodeFinds n (place_of w (index_of k w)) o r) it.0 (gives w stands)))
 
-pub finds_itself : (n : Node) (w : Data) → Stands n w → Finds n w [] (Some n)
+pub finds_itself : (n : Node) (w : Data) → HasData n w → WayFinds n w [] (Some n)
 finds_itself n w stands p d e =
     let same = same_Some (0, w) (p, d) e in
     let none : 0 ≡ p = ap (λ (q : ℕ × Data). q.0) same in
-    (subst (Stands n) (ap (λ (q : ℕ × Data). q.1) same) stands, omega (arith, none))
+    (subst (HasData n) (ap (λ (q : ℕ × Data). q.1) same) stands, omega (arith, none))
 
 pub text_length : (k : List ℕ) → length (spell_text k) ≡ length (head 3 (length k)) + length k
 text_length k = length_both (head 3 (length k)) k
 
 -- what is looked for where the way leads begins there
-pub placed_node : (n : Node) (way : List Step) (k : ℕ) → ((w : Data) (p : ℕ) (d : Data) → Stands n w → found_at way w ≡ Some (p, d) → k ≡ p)
-    → ((w : Data) → Stands n w → Leads way w) → (w : Data) → Stands n w → BeginsAt way w k
+pub placed_node : (n : Node) (way : List Step) (k : ℕ) → ((w : Data) (p : ℕ) (d : Data) → HasData n w → found_at way w ≡ Some (p, d) → k ≡ p)
+    → ((w : Data) → HasData n w → Leads way w) → (w : Data) → HasData n w → BeginsAt way w k
 placed_node n way k tells leads w stands =
     let l = leads w stands in
     (l.0.1, l.1 ∙ ap (λ m. Some (m, l.0.1)) (sym (tells w l.0.0 l.0.1 stands l.1)))

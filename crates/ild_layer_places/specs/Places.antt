@@ -1,6 +1,6 @@
 -- The steps of a way, and the item to which they lead.
 use Rattle.std.specs.Prelude.{◌≡◌, ◌≤◌, ◌⊎◌, ◌+◌, ℕ, List, [], ◌∷◌, ◌++◌, Option, Some, None}
-use Rattle.ild_cbor.specs.Nodes.{Stands, start_of}
+use Rattle.ild_cbor.specs.Nodes.{HasData, start_of}
 use Rattle.ild_cbor.specs.declared.node.Node.{Node}
 use Rattle.ild_cbor.specs.declared.piece.Piece.{Piece}
 use Rattle.ild_cbor.specs.declared.piece.Piece.TheVariants as P
@@ -27,12 +27,12 @@ steps_of (W.ValueInNode n i) = in_node n i 1
 
 -- a node stands for these data, so many bytes behind the first of another
 abbrev pub IsFound : Node → ℕ → Data → Option Node → Type 0
-IsFound n p d (Some m) = Stands m d × (start_of m ≡ start_of n + p)
+IsFound n p d (Some m) = HasData m d × (start_of m ≡ start_of n + p)
 IsFound n p d None = ⊥
 
 -- what a way finds was found
-abbrev pub Finds : Node → Data → List Step → Option Node → Type 0
-Finds n w way r = (p : ℕ) (d : Data) → found_at way w ≡ Some (p, d) → IsFound n p d r
+abbrev pub WayFinds : Node → Data → List Step → Option Node → Type 0
+WayFinds n w way r = (p : ℕ) (d : Data) → found_at way w ≡ Some (p, d) → IsFound n p d r
 
 -- the item at the end of a way begins so many bytes behind the first of the data's spelling
 abbrev pub BeginsAt : List Step → Data → ℕ → Type 0
@@ -40,15 +40,15 @@ BeginsAt way t n = (d : Data) × (found_at way t ≡ Some (n, d))
 
 -- the same in the item in which a piece stands: a part of a text or of bytes has no items in it
 abbrev pub PlacedAt : Piece → List Step → ℕ → Type 0
-PlacedAt (P.Node n) way k = (w : Data) → Stands n w → BeginsAt way w k
-PlacedAt (P.Inline n u) way k = (w : Data) → Stands n w → BeginsAt way w k
+PlacedAt (P.Node n) way k = (w : Data) → HasData n w → BeginsAt way w k
+PlacedAt (P.Inline n u) way k = (w : Data) → HasData n w → BeginsAt way w k
 PlacedAt (P.Text s) way k = (way ≡ []) × (k ≡ 0)
 PlacedAt (P.Bytes s) way k = (way ≡ []) × (k ≡ 0)
 
 -- the way ends at these data in the item of a piece
 abbrev pub EndsIn : Piece → List Step → Data → Type 0
-EndsIn (P.Node n) way d = (w : Data) → Stands n w → Ends way w d
-EndsIn (P.Inline n u) way d = (w : Data) → Stands n w → Ends way w d
+EndsIn (P.Node n) way d = (w : Data) → HasData n w → Ends way w d
+EndsIn (P.Inline n u) way d = (w : Data) → HasData n w → Ends way w d
 EndsIn (P.Text s) way d = ⊥
 EndsIn (P.Bytes s) way d = ⊥
 
@@ -62,8 +62,8 @@ IsOnto y way (P.Inline m u) d = (way ≡ []) × (y ≡ P.Node m)
 
 -- a way leads to an item in that of a piece
 abbrev pub LeadsIn : Piece → List Step → Type 0
-LeadsIn (P.Node n) way = (w : Data) → Stands n w → Leads way w
-LeadsIn (P.Inline n u) way = (w : Data) → Stands n w → Leads way w
+LeadsIn (P.Node n) way = (w : Data) → HasData n w → Leads way w
+LeadsIn (P.Inline n u) way = (w : Data) → HasData n w → Leads way w
 LeadsIn (P.Text s) way = way ≡ []
 LeadsIn (P.Bytes s) way = way ≡ []
 

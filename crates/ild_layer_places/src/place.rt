@@ -1,9 +1,9 @@
 //! Where in an item a part of it begins.
 ghost use Rattle.std.specs.Prelude.{◌≡◌, ℕ, ◌++◌, [], ◌∷◌, List, Some};
-ghost use Rattle.ild_cbor.specs.Nodes.{Stands};
+ghost use Rattle.ild_cbor.specs.Nodes.{HasData};
 ghost use Rattle.ild_cbor.specs.declared.node.Node.{Node as Item};
 ghost use Rattle.ild_data.specs.Data.{Data};
-ghost use Rattle.ild_layer_places.specs.Places.{Finds, LeadsIn, PlacedAt, steps_of};
+ghost use Rattle.ild_layer_places.specs.Places.{WayFinds, LeadsIn, PlacedAt, steps_of};
 ghost use Rattle.ild_typed.specs.RootSpots.{in_node};
 ghost use Rattle.ild_typed.specs.Spots.{Step, item, key as key_step, under};
 ghost use Rattle.ild_typed.specs.Ways.{found_at};
@@ -14,7 +14,7 @@ use ild_cbor::{Node, Piece};
 
 // The item of a list that was found.
 fn item_of<'b>(list: Option<Node<'b>>, i: u64) -> Option<Node<'b>>
-    ensures { (n : Item) (w : Data) (way : List Step) → Finds n w way list.entry → Finds n w (way ++ (item i ∷ [])) result }
+    ensures { (n : Item) (w : Data) (way : List Step) → WayFinds n w way list.entry → WayFinds n w (way ++ (item i ∷ [])) result }
 {
     match list {
         Some(list) => list.item(i),
@@ -24,14 +24,14 @@ fn item_of<'b>(list: Option<Node<'b>>, i: u64) -> Option<Node<'b>>
 
 // The value under a key.
 fn value_of<'b>(node: &Node<'b>, key: &str) -> Option<Node<'b>>
-    ensures { (w : Data) → Stands node.now w → Finds node.now w (under key.now ∷ []) result }
+    ensures { (w : Data) → HasData node.now w → WayFinds node.now w (under key.now ∷ []) result }
 {
     node.entry(key)
 }
 
 // How many bytes behind the first of a node a node in it begins.
 fn behind(node: &Node<'_>, part: Option<Node<'_>>) -> usize
-    ensures { (w : Data) (way : List Step) (p : ℕ) (d : Data) → Finds node.now w way part.entry → found_at way w ≡ Some (p, d) → result ≡ p }
+    ensures { (w : Data) (way : List Step) (p : ℕ) (d : Data) → WayFinds node.now w way part.entry → found_at way w ≡ Some (p, d) → result ≡ p }
 {
     match part {
         Some(part) => part.span().0.saturating_sub(node.span().0),
@@ -41,7 +41,7 @@ fn behind(node: &Node<'_>, part: Option<Node<'_>>) -> usize
 
 // The key of an entry stands in front of its value.
 fn key_place(node: &Node<'_>, key: &str) -> usize
-    ensures { (w : Data) (p : ℕ) (d : Data) → Stands node.now w → found_at (key_step key.now ∷ []) w ≡ Some (p, d) → result ≡ p }
+    ensures { (w : Data) (p : ℕ) (d : Data) → HasData node.now w → found_at (key_step key.now ∷ []) w ≡ Some (p, d) → result ≡ p }
 {
     behind(node, value_of(node, key))
         .saturating_sub(key.len())
@@ -50,7 +50,7 @@ fn key_place(node: &Node<'_>, key: &str) -> usize
 
 // The key or the value of an entry in an element of the node in a HAMT's root.
 fn in_node<'b>(node: &Node<'b>, element: u64, entry: u64, part: u64) -> Option<Node<'b>>
-    ensures { (w : Data) → Stands node.now w → Finds node.now w (in_node element entry part) result }
+    ensures { (w : Data) → HasData node.now w → WayFinds node.now w (in_node element entry part) result }
 {
     let root = value_of(node, "hamt");
     let elements = item_of(root, 1);
@@ -61,7 +61,7 @@ fn in_node<'b>(node: &Node<'b>, element: u64, entry: u64, part: u64) -> Option<N
 
 // How many bytes behind the first of an item one begins to which a way leads.
 fn place_in(node: &Node<'_>, way: &Way<'_>) -> usize
-    ensures { (w : Data) (p : ℕ) (d : Data) → Stands node.now w → found_at (steps_of way.now) w ≡ Some (p, d) → result ≡ p }
+    ensures { (w : Data) (p : ℕ) (d : Data) → HasData node.now w → found_at (steps_of way.now) w ≡ Some (p, d) → result ≡ p }
 {
     match way {
         Way::Here => 0,

@@ -10,7 +10,7 @@ use Rattle.ild_lex.specs.Bytes.{is_letter, is_digit, is_word_byte, is_mark, is_b
 use Rattle.ild_lex.specs.Form.{IsLongest, are_digits, is_inside}
 use Rattle.ild_lex.specs.declared.error.LexErr.{LexErr}
 use Rattle.ild_lex.specs.declared.error.LexErr.TheVariants as E
-use Rattle.ild_lex.specs.Lex.{Stop, all_read, wrong_char, unended_text, IsWrongFirst, HasWrongEscape, IsUnended, NoDigit, EndsAt, Lexes, Reads, Answers}
+use Rattle.ild_lex.specs.Lex.{Stop, all_read, wrong_char, unended_text, IsWrongFirst, HasWrongEscape, IsUnended, NoDigit, EndsAt, Lexes, Reads, ReadsTokens}
 use Rattle.ild_lex.specs.inside.Scan.{Piece, token, wrong, unended, piece_of, piece_of_text, skip, skip_while, begins_with_digit, goes, stops, by_piece, behind_gap, first_of}
 use Rattle.ild_lex.proofs.Classes.{mark_is, letter_is, digit_is}
 use Rattle.ild_lex.proofs.Runs.{Begins, run_more, skip-run, skip-none}
@@ -170,19 +170,19 @@ one_reading end at bytes (t ∷ ts) (u ∷ us) s r len h k =
     ((λ i. token_same i ∷ more.0 i), more.1)
 
 -- so an answer that is true is the only one
-pub only_answer : (src : List ℕ) (result : Result (List Token) LexErr) → Reads (λ v. v) src result → (ts : List Token) (stop : Stop) → Lexes 0 src ts stop → Answers (λ v. v) ts stop result
+pub only_answer : (src : List ℕ) (result : Result (List Token) LexErr) → Reads (λ v. v) src result → (ts : List Token) (stop : Stop) → Lexes 0 src ts stop → ReadsTokens (λ v. v) ts stop result
 only_answer src (Ok v) h ts stop k =
     let one = one_reading (length src) 0 src v ts all_read stop (omega arith) h k in
-    subst (λ (s : Stop). Answers (λ v. v) ts s (Ok v)) one.1 one.0
+    subst (λ (s : Stop). ReadsTokens (λ v. v) ts s (Ok v)) one.1 one.0
 only_answer src (Err E.Memory) h ts stop k = memory_answer ts stop
   where
-    memory_answer : (ts : List Token) (stop : Stop) → Answers {A = List Token} (λ v. v) ts stop (Err E.Memory)
+    memory_answer : (ts : List Token) (stop : Stop) → ReadsTokens {A = List Token} (λ v. v) ts stop (Err E.Memory)
     memory_answer ts all_read = tt
     memory_answer ts (wrong_char p) = tt
     memory_answer ts (unended_text p) = tt
 only_answer src (Err (E.Char at)) h ts stop k =
     let one = one_reading (length src) 0 src h.0 ts (wrong_char at) stop (omega arith) h.1 k in
-    subst (λ (s : Stop). Answers {A = List Token} (λ v. v) ts s (Err (E.Char at))) one.1 refl
+    subst (λ (s : Stop). ReadsTokens {A = List Token} (λ v. v) ts s (Err (E.Char at))) one.1 refl
 only_answer src (Err (E.Unended at)) h ts stop k =
     let one = one_reading (length src) 0 src h.0 ts (unended_text at) stop (omega arith) h.1 k in
-    subst (λ (s : Stop). Answers {A = List Token} (λ v. v) ts s (Err (E.Unended at))) one.1 refl
+    subst (λ (s : Stop). ReadsTokens {A = List Token} (λ v. v) ts s (Err (E.Unended at))) one.1 refl

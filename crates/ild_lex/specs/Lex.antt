@@ -81,14 +81,14 @@ Reads seen src (Err (E.Char at)) = (ts : List Token) × Lexes 0 src ts (wrong_ch
 Reads seen src (Err (E.Unended at)) = (ts : List Token) × Lexes 0 src ts (unended_text at)
 
 -- the answer for these tokens and this end, unless memory ran out
-abbrev pub Answers : {A : Type 0} → (A → List Token) → List Token → Stop → Result A LexErr → Type 0
-Answers seen ts all_read (Ok v) = seen v ≡ ts
-Answers seen ts (wrong_char p) (Ok v) = ⊥
-Answers seen ts (unended_text p) (Ok v) = ⊥
-Answers seen ts stop (Err E.Memory) = Unit {0}
-Answers seen ts (wrong_char p) (Err (E.Char at)) = at ≡ p
-Answers seen ts all_read (Err (E.Char at)) = ⊥
-Answers seen ts (unended_text p) (Err (E.Char at)) = ⊥
-Answers seen ts (unended_text p) (Err (E.Unended at)) = at ≡ p
-Answers seen ts all_read (Err (E.Unended at)) = ⊥
-Answers seen ts (wrong_char p) (Err (E.Unended at)) = ⊥
+abbrev pub ReadsTokens : {A : Type 0} → (A → List Token) → List Token → Stop → Result A LexErr → Type 0
+ReadsTokens seen ts all_read (Ok v) = seen v ≡ ts
+ReadsTokens seen ts (wrong_char p) (Ok v) = ⊥
+ReadsTokens seen ts (unended_text p) (Ok v) = ⊥
+ReadsTokens seen ts stop (Err E.Memory) = Unit {0}
+ReadsTokens seen ts (wrong_char p) (Err (E.Char at)) = at ≡ p
+ReadsTokens seen ts all_read (Err (E.Char at)) = ⊥
+ReadsTokens seen ts (unended_text p) (Err (E.Char at)) = ⊥
+ReadsTokens seen ts (unended_text p) (Err (E.Unended at)) = at ≡ p
+ReadsTokens seen ts all_read (Err (E.Unended at)) = ⊥
+ReadsTokens seen ts (wrong_char p) (Err (E.Unended at)) = ⊥

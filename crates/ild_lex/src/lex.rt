@@ -2,7 +2,7 @@
 ghost use Rattle.std.specs.Prelude.{List};
 ghost use Rattle.ild_lex.specs.declared.token.Token.{Token};
 ghost use Rattle.std.specs.List.{AllByRecursion};
-ghost use Rattle.ild_lex.specs.Lex.{Stop, Lexes, Reads, Answers, AreTokens};
+ghost use Rattle.ild_lex.specs.Lex.{Stop, Lexes, Reads, ReadsTokens, AreTokens};
 ghost use Rattle.ild_lex.specs.Span.{IsSpan};
 
 use crate::scan::{Next, first_at};
@@ -33,7 +33,7 @@ pub fn tokens(alloc: Global, src: &str) -> Result<Tokens, LexErr>
     // What is answered is true of the source.
     ensures found { Reads (λ v. v) src.now result }
     // Nothing else is true of it, so each source has one answer, unless memory runs out.
-    ensures only { (ts : List Token) (stop : Stop) → Lexes 0 src.now ts stop → Answers (λ v. v) ts stop result }
+    ensures only { (ts : List Token) (stop : Stop) → Lexes 0 src.now ts stop → ReadsTokens (λ v. v) ts stop result }
 {
     lexed(alloc, src.as_bytes())
 }

@@ -5,7 +5,7 @@ use Rattle.std.specs.declared.cmp.Ordering.TheVariants.{Less}
 use Rattle.ild_data.specs.Data.{Data, depth}
 use Rattle.ild_data.specs.Spell.{spell}
 use Rattle.ild_data.specs.ByteOrder.{bytewise, IsInOrder}
-use Rattle.ild_cbor.specs.Nodes.{Stands}
+use Rattle.ild_cbor.specs.Nodes.{HasData}
 use Rattle.ild_cbor.specs.declared.node.Node.{Node}
 use Rattle.ild_typed.specs.Nested.{TreeIn}
 use Rattle.ild_node_slots.specs.Form.{AreTexts}
@@ -36,7 +36,7 @@ IsAbove k (e ∷ f ∷ es) = IsAbove k (f ∷ es)
 
 -- the item nests so deep at most
 abbrev pub NestsIn : ℕ → Node → Type 0
-NestsIn room n = (t : Data) → Stands n t → depth t ≤ room
+NestsIn room n = (t : Data) → HasData n t → depth t ≤ room
 
 abbrev pub spelled_entry : List ℕ × Data → List ℕ × List ℕ
 spelled_entry e = (e.0, spell e.1)

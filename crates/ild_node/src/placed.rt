@@ -3,7 +3,7 @@ ghost use Rattle.std.specs.Prelude.{◌≡◌, ◌<◌, ◌≤◌, length, slice
 ghost use Rattle.std.specs.FinMap.{put};
 ghost use Rattle.ild_data.specs.ByteOrder.{bytewise};
 ghost use Rattle.ild_data.specs.Data.{Data};
-ghost use Rattle.ild_cbor.specs.Nodes.{Stands};
+ghost use Rattle.ild_cbor.specs.Nodes.{HasData};
 ghost use Rattle.ild_node.specs.Rows.{rows_seen, row_seen};
 
 use crate::row::Row;
@@ -46,7 +46,7 @@ impl Rows {
     /// Puts a row in its place, in place of the one with its key where there is one. The value leaves room for the node around it.
     pub fn put(&mut self, alloc: Global, key: &str, value: &Node<'_>) -> Result<(), AllocError>
         requires { NestsIn deepest_value value.now }
-        ensures ok { (t : Data) → Stands value.now t → OnOk result (self.new ≡ put bytewise key.now t self.old) }
+        ensures ok { (t : Data) → HasData value.now t → OnOk result (self.new ≡ put bytewise key.now t self.old) }
         ensures err { OnErr result (self.new ≡ self.old) }
     {
         let row = Row {

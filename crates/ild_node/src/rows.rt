@@ -1,7 +1,7 @@
 //! Rows: entries to be written, rising bytewise by key (IPLD HashMap, "Bucket").
 ghost use Rattle.std.specs.Prelude.{◌≡◌, ◌++◌, ◌+◌, ◌∷◌, [], length, slice_get, option_map, OnOk, OnErr};
 ghost use Rattle.ild_data.specs.Data.{Data};
-ghost use Rattle.ild_cbor.specs.Nodes.{Stands};
+ghost use Rattle.ild_cbor.specs.Nodes.{HasData};
 
 use crate::row::Row;
 use ild_cbor::Node;
@@ -83,7 +83,7 @@ impl Rows {
     pub fn push(&mut self, alloc: Global, key: &str, value: &Node<'_>) -> Result<(), AllocError>
         requires above { IsAbove key.now self.old }
         requires nested { NestsIn deepest_value value.now }
-        ensures ok { (t : Data) → Stands value.now t → OnOk result (self.new ≡ self.old ++ (key.now, t) ∷ []) }
+        ensures ok { (t : Data) → HasData value.now t → OnOk result (self.new ≡ self.old ++ (key.now, t) ∷ []) }
         // Nothing is lost: there is one row more.
         ensures more { OnOk result (length self.new ≡ length self.old + 1) }
         ensures err { OnErr result (self.new ≡ self.old) }

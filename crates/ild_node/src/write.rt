@@ -6,7 +6,7 @@ ghost use Rattle.ild_data.specs.Data.{Data};
 ghost use Rattle.ild_data.specs.Spell.{head, spell, spell_bytes};
 ghost use Rattle.ild_data.specs.declared.hamt_shape.HamtShape.{HamtShape};
 ghost use Rattle.ild_data.specs.Trie.{byte_of, is_used, elements_of, entry_data};
-ghost use Rattle.ild_cbor.specs.Nodes.{Stands};
+ghost use Rattle.ild_cbor.specs.Nodes.{HasData};
 ghost use Rattle.ild_typed.specs.Hamt.{root_map};
 ghost use Rattle.ild_node_slots.specs.Form.{bucket_data};
 ghost use Rattle.ild_node.specs.NewSlots.{IndicesRise, IsFilled, IsFilledSlot, hold_seen, slot_seen, slots_seen, spread, is_next};
@@ -213,7 +213,7 @@ pub fn write_slots(alloc: Global, slots: &[Option<NewHold>]) -> Result<Octets, A
 
 /// The root map of a HAMT of this shape, whose own node this is.
 pub fn write_root(alloc: Global, shape: HamtShape, node: &Node<'_>) -> Result<Octets, AllocError>
-    ensures { (t : Data) → Stands node.now t → IfOk result (λ out. out ≡ spell (root_map shape t)) }
+    ensures { (t : Data) → HasData node.now t → IfOk result (λ out. out ≡ spell (root_map shape t)) }
 {
     let mut out = Emit::new(alloc);
     out.head(5, 3)?;

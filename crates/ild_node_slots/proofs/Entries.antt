@@ -3,7 +3,7 @@ use Rattle.std.proofs.Common.{◌≡◌, refl, arith, length, ◌∷◌, ℕ, Li
 use Rattle.std.specs.Borrow.{Bor}
 use Rattle.ild_data.specs.Data.{Data, bytes, list, no_items, item, items_list}
 use Rattle.ild_cbor.specs.declared.node.Node.{Node}
-use Rattle.ild_cbor.specs.Nodes.{Stands, IsPart}
+use Rattle.ild_cbor.specs.Nodes.{HasData, IsPart}
 use Rattle.ild_cbor.specs.Scalar.{bytes_of}
 use Rattle.ild_cbor.specs.Span.{place_of}
 use Rattle.ild_typed.specs.NodeReading.{text_in, key_in, pair_in, entry_in, entry_of_pair}
@@ -21,12 +21,12 @@ key_made : (d : Data) (ones : List ℕ) → Some ones ≡ bytes_of d → key_in 
 key_made (bytes k) ones is = let same : ones ≡ k = cc in ap text_in (sym same)
 key_made d ones is = absurd cc
 
-entry_by : (n a b : Node) (t : Data) (ones : List ℕ) (r : Option (Bor (List ℕ))) (o : Option (Data × Data)) → PairIs n t o (Some (a, b)) → ((d : Data) → Stands a d → Some ones ≡ bytes_of d)
+entry_by : (n a b : Node) (t : Data) (ones : List ℕ) (r : Option (Bor (List ℕ))) (o : Option (Data × Data)) → PairIs n t o (Some (a, b)) → ((d : Data) → HasData a d → Some ones ≡ bytes_of d)
     → option_map (λ s. s.now) r ≡ text_in ones → EntryIn n t (option_and_then entry_of_pair o) (option_map (λ s. (s, b)) r)
 entry_by n a b t ones r None pair keys is = absurd pair
 entry_by n a b t ones r (Some x) pair keys is = entry_made n b t x.1 (key_in x.0) r (is ∙ sym (key_made x.0 ones (keys x.0 pair.0.stands))) pair.1
 
-pub entry-made : (n a b : Node) (t : Data) (ones : List ℕ) (r : Option (Bor (List ℕ))) → PairIs n t (pair_in t) (Some (a, b)) → ((d : Data) → Stands a d → Some ones ≡ bytes_of d)
+pub entry-made : (n a b : Node) (t : Data) (ones : List ℕ) (r : Option (Bor (List ℕ))) → PairIs n t (pair_in t) (Some (a, b)) → ((d : Data) → HasData a d → Some ones ≡ bytes_of d)
     → option_map (λ s. s.now) r ≡ text_in ones → EntryIn n t (entry_in t) (option_map (λ s. (s, b)) r)
 entry-made n a b t ones r pair keys is = entry_by n a b t ones r (pair_in t) pair keys is
 

@@ -3,7 +3,7 @@ use Rattle.std.proofs.Common.{◌≡◌, ℕ, zero, suc, ◌*◌, ◌/◌, ◌%�
 use Rattle.std.specs.Prelude.{MatchOption}
 use Rattle.ild_data.specs.Data.{Data, bytes, list, Items, items_of}
 use Rattle.ild_cbor.specs.declared.node.Node.{Node}
-use Rattle.ild_cbor.specs.Nodes.{Stands, IsPart}
+use Rattle.ild_cbor.specs.Nodes.{HasData, IsPart}
 use Rattle.ild_cbor.specs.Span.{place_of}
 use Rattle.ild_cbor.specs.declared.items.Items.{Items as ItemsLeft}
 use Rattle.ild_cbor.specs.Scalar.{bytes_of}
@@ -27,11 +27,11 @@ pub record SlotsIn (p : HamtShape) (v : NodeView) (t : Data) : Type 0 where
   pub has : HasSlots p v slots
 
 -- a view of an item that stands for the node of slots has these slots
-has-slots : (p : HamtShape) (v : NodeView) (node : Node) (t : Data) (slots : List TrieSlot) (view : IsViewOf v node p t) → Stands node t → IsNode p slots → t ≡ node_data slots
+has-slots : (p : HamtShape) (v : NodeView) (node : Node) (t : Data) (slots : List TrieSlot) (view : IsViewOf v node p t) → HasData node t → IsNode p slots → t ≡ node_data slots
     → view.ones ≡ map_of slots → view.parts ≡ items_of (flat_map elements_of slots) → HasSlots p v slots
 has-slots p v node t slots view stands form is ones parts = record {
   shape = view.shape_is;
-  stands = subst (λ (n : Node). Stands n (node_data slots)) (sym view.node_is) (subst (λ (d : Data). Stands node d) is stands);
+  stands = subst (λ (n : Node). HasData n (node_data slots)) (sym view.node_is) (subst (λ (d : Data). HasData node d) is stands);
   map = view.map ∙ ones;
   part = subst (λ (n : Node). IsPart n v.data (place_of (node_data slots) 1) (list (items_of (flat_map elements_of slots)))) (sym view.node_is)
       (subst (λ (d : Data). IsPart node v.data (place_of d 1) (list (items_of (flat_map elements_of slots)))) is
@@ -51,18 +51,18 @@ same_pair m n ds es is =
     same_items : (ds es : Items) → list ds ≡ list es → ds ≡ es
     same_items ds es is = cc
 
-pub view-only : (p : HamtShape) (v : NodeView) (node : Node) (slots : List TrieSlot) → IsViewOf v node p (node_data slots) → Stands node (node_data slots) → IsNode p slots → HasSlots p v slots
+pub view-only : (p : HamtShape) (v : NodeView) (node : Node) (slots : List TrieSlot) → IsViewOf v node p (node_data slots) → HasData node (node_data slots) → IsNode p slots → HasSlots p v slots
 view-only p v node slots view stands form =
     let same = same_pair (map_of slots) view.ones (items_of (flat_map elements_of slots)) view.parts view.pair in
     has-slots p v node (node_data slots) slots view stands form refl (sym same.0) (sym same.1)
 
-pub view-taken : (p : HamtShape) (v : NodeView) (node : Node) (t : Data) → IsViewOf v node p t → Stands node t → SlotsIn p v t
+pub view-taken : (p : HamtShape) (v : NodeView) (node : Node) (t : Data) → IsViewOf v node p t → HasData node t → SlotsIn p v t
 view-taken p v node t view stands =
     let n = node-taken p t p.wide stands.within.tree (ap (pair_fits p) view.pair ∙ view.fits) in
     record {
       slots = n.slots;
       is = n.is;
-      has = view-only p v node n.slots (subst (λ (d : Data). IsViewOf v node p d) n.is view) (subst (λ (d : Data). Stands node d) n.is stands) (record { many = n.many; each = n.each });
+      has = view-only p v node n.slots (subst (λ (d : Data). IsViewOf v node p d) n.is view) (subst (λ (d : Data). HasData node d) n.is stands) (record { many = n.many; each = n.each });
     }
 
 -- ---- the parts of a view
@@ -81,26 +81,26 @@ parts_in : (n : Node) (t d e : Data) (ones : List ℕ) (b : Node) (it : ItemsLef
 parts_in n t d (list ds) ones b it pair is part finds = record { parts = ds; pair = pair ∙ ap (λ x. Some (x, list ds)) is; items = finds; elements = part }
 parts_in n t d e ones b it pair is part finds = absurd finds
 
-parts_by : (n : Node) (t : Data) (o : Option (Data × Data)) (a b : Node) (ones : List ℕ) (it : ItemsLeft) → o ≡ pair_in t → PairIs n t o (Some (a, b)) → ((d : Data) → Stands a d → Some ones ≡ bytes_of d)
-    → ((d : Data) → Stands b d → FindsItems b (list_items d) (Some it)) → PartsOf n t ones b it
+parts_by : (n : Node) (t : Data) (o : Option (Data × Data)) (a b : Node) (ones : List ℕ) (it : ItemsLeft) → o ≡ pair_in t → PairIs n t o (Some (a, b)) → ((d : Data) → HasData a d → Some ones ≡ bytes_of d)
+    → ((d : Data) → HasData b d → FindsItems b (list_items d) (Some it)) → PartsOf n t ones b it
 parts_by n t None a b ones it read pair keys items = absurd pair
 parts_by n t (Some x) a b ones it read pair keys items =
     parts_in n t x.0 x.1 ones b it (sym read) (bytes_is x.0 ones (keys x.0 pair.0.stands)) pair.1 (items x.1 pair.1.stands)
 
-pub parts-of : (n : Node) (t : Data) (a b : Node) (ones : List ℕ) (it : ItemsLeft) → PairIs n t (pair_in t) (Some (a, b)) → ((d : Data) → Stands a d → Some ones ≡ bytes_of d)
-    → ((d : Data) → Stands b d → FindsItems b (list_items d) (Some it)) → PartsOf n t ones b it
+pub parts-of : (n : Node) (t : Data) (a b : Node) (ones : List ℕ) (it : ItemsLeft) → PairIs n t (pair_in t) (Some (a, b)) → ((d : Data) → HasData a d → Some ones ≡ bytes_of d)
+    → ((d : Data) → HasData b d → FindsItems b (list_items d) (Some it)) → PartsOf n t ones b it
 parts-of n t a b ones it pair keys items = parts_by n t (pair_in t) a b ones it refl pair keys items
 
 pub not-fits : (p : HamtShape) (n : Node) (t : Data) (ones : List ℕ) (b : Node) (it : ItemsLeft) (parts : PartsOf n t ones b it) (r : Bool) → r ≡ parts_fit p (bytes ones, list parts.parts) → r ≡ false → node_fits p t ≡ false
 not-fits p n t ones b it parts r is off = ap (pair_fits p) parts.pair ∙ sym is ∙ off
 
-not_listed : (p : HamtShape) (n : Node) (t d e : Data) (b : Node) → IsPart n b (place_of t 1) e → ((u : Data) → Stands b u → FindsItems b (list_items u) None) → parts_fit p (d, e) ≡ false
+not_listed : (p : HamtShape) (n : Node) (t d e : Data) (b : Node) → IsPart n b (place_of t 1) e → ((u : Data) → HasData b u → FindsItems b (list_items u) None) → parts_fit p (d, e) ≡ false
 not_listed p n t (bytes m) (list ds) b part items = absurd (items (list ds) part.stands)
 not_listed p n t (bytes m) e b part items = refl
 not_listed p n t d e b part items = refl
 
 -- an item whose second part is no list isn't read
-pub not-listed : (p : HamtShape) (n : Node) (t : Data) (a b : Node) (r : Option NodeView) (Q : NodeView → Type 0) → PairIs n t (pair_in t) (Some (a, b)) → ((u : Data) → Stands b u → FindsItems b (list_items u) None)
+pub not-listed : (p : HamtShape) (n : Node) (t : Data) (a b : Node) (r : Option NodeView) (Q : NodeView → Type 0) → PairIs n t (pair_in t) (Some (a, b)) → ((u : Data) → HasData b u → FindsItems b (list_items u) None)
     → r ≡ None → MatchOption r (node_fits p t ≡ false) Q
 not-listed p n t a b (Some v) Q pair items none = absurd cc
 not-listed p n t a b None Q pair items none = by (pair_in t) pair

@@ -13,7 +13,7 @@ use Rattle.ild_data.specs.Spell.{cid_of}
 use Rattle.ild_data.proofs.Lists.{items_list-items_of, length-items}
 use Rattle.std.proofs.lemmas.List.{length-map}
 use Rattle.ild_cbor.specs.declared.node.Node.{Node}
-use Rattle.ild_cbor.specs.Nodes.{Stands, Finds, IsPart}
+use Rattle.ild_cbor.specs.Nodes.{HasData, Finds, IsPart}
 use Rattle.ild_cbor.specs.Scalar.{link_of, count_of}
 use Rattle.ild_cbor.specs.Span.{item_of, place_of}
 use Rattle.ild_data.specs.declared.hamt_shape.HamtShape.{HamtShape}
@@ -245,7 +245,7 @@ item_is : (slots : List TrieSlot) (n : ℕ) → item_of (elements_data slots) n 
 item_is slots n = ap (λ xs. slice_get xs n) (items_list-items_of (flat_map elements_of slots))
 
 pub slot-on : (p : HamtShape) (v : NodeView) (slots : List TrieSlot) (i n : ℕ) (m : Node) (r : NodeSlot) → HasSlots p v slots → map_bit v.map.now i ≡ true → n ≡ ones_below v.map.now i
-    → ((t : Data) → Stands v.data t → Finds v.data (place_of t n) (item_of t n) (Some m)) → ((t : Data) → Stands m t → ElementIs r m (child_in t)) → SlotIs v slots i r
+    → ((t : Data) → HasData v.data t → Finds v.data (place_of t n) (item_of t n) (Some m)) → ((t : Data) → HasData m t → ElementIs r m (child_in t)) → SlotIs v slots i r
 slot-on p v slots i n m r has on before finds made =
     let lt = slot-within p v.map.now slots i has.form.many has.map on in
     let e = used-at p v.map.now slots i has.form.many has.map on in
@@ -254,7 +254,7 @@ slot-on p v slots i n m r has on before finds made =
     slot-is p v slots i m r has e (subst (λ (k : ℕ). IsPart v.data m (place_of (elements_data slots) k) e.of) at part) (made e.of part.stands)
 
 pub slot-missing : (p : HamtShape) (v : NodeView) (slots : List TrieSlot) (i n : ℕ) → HasSlots p v slots → map_bit v.map.now i ≡ true → n ≡ ones_below v.map.now i
-    → ((t : Data) → Stands v.data t → Finds v.data (place_of t n) (item_of t n) None) → ⊥
+    → ((t : Data) → HasData v.data t → Finds v.data (place_of t n) (item_of t n) None) → ⊥
 slot-missing p v slots i n has on before finds =
     let lt = slot-within p v.map.now slots i has.form.many has.map on in
     let e = used-at p v.map.now slots i has.form.many has.map on in
@@ -300,7 +300,7 @@ step-off p v slots i s t has at lt off maps next counts same =
     )
 
 pub step-on : (p : HamtShape) (v : NodeView) (slots : List TrieSlot) (i : ℕ) (s t : Slots) (m : Node) (r : NodeSlot) → HasSlots p v slots → IsAtSlot v slots i s → s.next < s.count
-    → map_bit s.map.now s.next ≡ true → t.map.now ≡ s.map.now → t.next ≡ s.next + 1 → t.count ≡ s.count → ItemsGive s.elements (Some m) t.elements → ((u : Data) → Stands m u → ElementIs r m (child_in u))
+    → map_bit s.map.now s.next ≡ true → t.map.now ≡ s.map.now → t.next ≡ s.next + 1 → t.count ≡ s.count → ItemsGive s.elements (Some m) t.elements → ((u : Data) → HasData m u → ElementIs r m (child_in u))
     → (i < length slots) × SlotIs v slots i r × IsAtSlot v slots (i + 1) t
 step-on p v slots i s t m r has at lt on maps next counts gives made =
     let l = at.count in
@@ -310,7 +310,7 @@ step-on p v slots i s t m r has at lt on maps next counts gives made =
     let step = iter-step v.data (flat_map elements_of slots) (elements_before slots i) s.elements t.elements m at.elements gives in
     let same : step.of ≡ e.of = some_same step.of e.of (sym step.is ∙ e.found) in (
       within,
-      slot-is p v slots i m r has e (subst (λ (d : Data). IsPart v.data m (place_of (elements_data slots) (elements_before slots i)) d) same step.part) (made e.of (subst (λ (d : Data). Stands m d) same step.part.stands)),
+      slot-is p v slots i m r has e (subst (λ (d : Data). IsPart v.data m (place_of (elements_data slots) (elements_before slots i)) d) same step.part) (made e.of (subst (λ (d : Data). HasData m d) same step.part.stands)),
       record {
         map = maps ∙ at.map;
         next = next ∙ ap (λ k. k + 1) n;
@@ -370,11 +370,11 @@ read_as b es i m e (Some f) (Some r) is part reads =
     some_same f e is = cc
 
 here : (b : Bucket) (es : List (List ℕ × Data)) (i : ℕ) (m : Node) (q : Option (List ℕ × Data)) (r : Option (Bor (List ℕ) × Node)) → Finds b.node (place_of (bucket_data es) i) (option_map entry_data q) (Some m)
-    → ((d : Data) → Stands m d → EntryIn m d (entry_in d) r) → ((e : List ℕ × Data) → q ≡ Some e → IsUtf8 e.0) → EntryIs b es i q r
+    → ((d : Data) → HasData m d → EntryIn m d (entry_in d) r) → ((e : List ℕ × Data) → q ≡ Some e → IsUtf8 e.0) → EntryIs b es i q r
 here b es i m None r finds reads texts = absurd finds
 here b es i m (Some e) r finds reads texts = read_as b es i m e (entry_in (entry_data e)) r (entry-read e (texts e refl)) finds (reads (entry_data e) finds.stands)
 
 pub entry-here : (b : Bucket) (es : List (List ℕ × Data)) (i : ℕ) (m : Node) (r : Option (Bor (List ℕ) × Node)) → AreTexts es → Finds b.node (place_of (bucket_data es) i) (item_of (bucket_data es) i) (Some m)
-    → ((d : Data) → Stands m d → EntryIn m d (entry_in d) r) → EntryIs b es i (slice_get es i) r
+    → ((d : Data) → HasData m d → EntryIn m d (entry_in d) r) → EntryIs b es i (slice_get es i) r
 entry-here b es i m r all finds reads =
     here b es i m (slice_get es i) r (subst (λ (o : Option Data). Finds b.node (place_of (bucket_data es) i) o (Some m)) (item-bucket es i) finds) reads (λ e is. text-at es i e all is)

@@ -8,7 +8,7 @@ use Rattle.std.proofs.lemmas.Bool.{false_from_ne_true, false≢true}
 use Rattle.ild_data.specs.Data.{Data, bytes, Items, no_items, item}
 use Rattle.ild_cbor.specs.declared.node.Node.{Node}
 use Rattle.ild_cbor.specs.declared.items.Items.{Items as ItemsLeft}
-use Rattle.ild_cbor.specs.Nodes.{Stands, IsPart}
+use Rattle.ild_cbor.specs.Nodes.{HasData, IsPart}
 use Rattle.ild_cbor.specs.Scalar.{bytes_of}
 use Rattle.ild_cbor.specs.Span.{place_of}
 use Rattle.ild_cbor.specs.Steps.{HasItems, ItemsGive}
@@ -51,7 +51,7 @@ entry-at (e ∷ es) zero d is = let same : entry_data e ≡ d = some_same (entry
 entry-at (e ∷ es) (suc k) d is = let r = entry-at es k d is in record { e = r.e; is = r.is; found = r.found; here = r.here }
 
 abbrev pub Halves : Node → Option (Node × Node) → Type 0
-Halves n r = (d : Data) → Stands n d → PairIs n d (pair_in d) r
+Halves n r = (d : Data) → HasData n d → PairIs n d (pair_in d) r
 
 not_key : (key k : List ℕ) → (k ≡ key → ⊥) → eq_by_cmp bytewise key k ≡ false
 not_key key k apart = false_from_ne_true _ (λ e. apart (sym (same_key key k e)))
@@ -60,11 +60,11 @@ next_is : (k : ℕ) → suc k ≡ k + 1
 next_is k = omega arith
 
 pub value-step : (b : Node) (s t : ItemsLeft) (n : Node) (key : List ℕ) (es : List (List ℕ × Data)) (r : Node × Node) → ValuesLeft b s key es → ItemsGive s (Some n) t → Halves n (Some r)
-    → ((d : Data) → Stands r.0 d → bytes_of d ≡ Some key → ⊥) → ValuesLeft b t key es
+    → ((d : Data) → HasData r.0 d → bytes_of d ≡ Some key → ⊥) → ValuesLeft b t key es
 value-step b s t n key es r l gives reads apart =
     let step = iter-step b (map entry_data es) l.at s t n l.iter gives in
     let e = entry-at es l.at step.of step.is in
-    let halves = reads (entry_data e.e) (subst (λ (d : Data). Stands n d) e.is step.part.stands) in
+    let halves = reads (entry_data e.e) (subst (λ (d : Data). HasData n d) e.is step.part.stands) in
     record {
       at = l.at + 1;
       iter = step.next;
@@ -74,11 +74,11 @@ value-step b s t n key es r l gives reads apart =
     }
 
 pub value-here : (b : Node) (s t : ItemsLeft) (n : Node) (key : List ℕ) (es : List (List ℕ × Data)) (r : Node × Node) → ValuesLeft b s key es → ItemsGive s (Some n) t → Halves n (Some r)
-    → ((d : Data) → Stands r.0 d → bytes_of d ≡ Some key) → ValueIn b es key (find bytewise key es) (Some r.1)
+    → ((d : Data) → HasData r.0 d → bytes_of d ≡ Some key) → ValueIn b es key (find bytewise key es) (Some r.1)
 value-here b s t n key es r l gives reads found =
     let step = iter-step b (map entry_data es) l.at s t n l.iter gives in
     let e = entry-at es l.at step.of step.is in
-    let halves = reads (entry_data e.e) (subst (λ (d : Data). Stands n d) e.is step.part.stands) in
+    let halves = reads (entry_data e.e) (subst (λ (d : Data). HasData n d) e.is step.part.stands) in
     let keys : e.e.0 ≡ key = some_key e.e.0 key (found (bytes e.e.0) halves.0.stands) in
     let is : find bytewise key es ≡ Some e.e.1 =
     l.same ∙ ap (find bytewise key) e.here
@@ -98,7 +98,7 @@ pub value-missing : (b : Node) (s t : ItemsLeft) (n : Node) (key : List ℕ) (es
 value-missing b s t n key es l gives reads =
     let step = iter-step b (map entry_data es) l.at s t n l.iter gives in
     let e = entry-at es l.at step.of step.is in
-    reads (entry_data e.e) (subst (λ (d : Data). Stands n d) e.is step.part.stands)
+    reads (entry_data e.e) (subst (λ (d : Data). HasData n d) e.is step.part.stands)
 
 past_all : (key : List ℕ) (es : List (List ℕ × Data)) (k : ℕ) → length (map entry_data es) ≤ k → find bytewise key (drop k es) ≡ None
 past_all key [] zero le = refl

@@ -9,7 +9,7 @@ use Rattle.ild_data.specs.Data.{Data, integer, map as map_data, Members, no_memb
 use Rattle.ild_data.specs.Spell.{head, spell_text}
 use Rattle.ild_cbor.specs.declared.node.Node.{Node}
 use Rattle.ild_cbor.specs.declared.pairs.Pairs.{Pairs}
-use Rattle.ild_cbor.specs.Nodes.{Stands, Finds, IsPart}
+use Rattle.ild_cbor.specs.Nodes.{HasData, Finds, IsPart}
 use Rattle.ild_cbor.specs.Scalar.{int_of}
 use Rattle.ild_cbor.specs.Span.{entry_of, place_of}
 use Rattle.ild_cbor.specs.Steps.{HasEntries, IteratesEntries, FindsEntries, EntryStep, EntriesGive, members_of as map_members}
@@ -33,11 +33,11 @@ int_is d n is = absurd cc
 pub not-other : (t : Data) (key : List ℕ) (n : ℕ) → option_and_then int_of (entry_of t key) ≡ Some (pos n) → HasOtherInt t key n → ⊥
 not-other t key n is other = other.other (let e : Some other.found ≡ Some (pos n) = sym other.is ∙ is in let f : other.found ≡ pos n = cc in f)
 
-pub other-int : (n : Node) (place : ℕ) (t : Data) (key : List ℕ) (wanted : ℕ) (m : Node) (b : Bool) → Finds n place (entry_of t key) (Some m) → ((u : Data) → Stands m u → (k : ℤ) × (int_of u ≡ Some k))
-    → ((u : Data) → Stands m u → IsTrue b ↔ (int_of u ≡ Some (pos wanted))) → IsTrue (not b) ↔ HasOtherInt t key wanted
+pub other-int : (n : Node) (place : ℕ) (t : Data) (key : List ℕ) (wanted : ℕ) (m : Node) (b : Bool) → Finds n place (entry_of t key) (Some m) → ((u : Data) → HasData m u → (k : ℤ) × (int_of u ≡ Some k))
+    → ((u : Data) → HasData m u → IsTrue b ↔ (int_of u ≡ Some (pos wanted))) → IsTrue (not b) ↔ HasOtherInt t key wanted
 other-int n place t key wanted m b finds ints tells = by (entry_of t key) refl finds
   where
-    by_value : (u : Data) → entry_of t key ≡ Some u → Stands m u → IsTrue (not b) ↔ HasOtherInt t key wanted
+    by_value : (u : Data) → entry_of t key ≡ Some u → HasData m u → IsTrue (not b) ↔ HasOtherInt t key wanted
     by_value u is stands =
         let k = ints u stands in
         let iff = tells u stands in
@@ -94,7 +94,7 @@ first_part n m s t k d ms it next = record {
 pub root-found : (p : HamtShape) (t : Data) (n : Node) (s0 s1 s2 s3 s4 : Pairs) (item hash bucket : Node) (r : Option (Bor (List ℕ) × Node)) → FindsEntries n (map_members t) (Some s0)
     → ((ms : Members) → HasEntries s0 ms → NextOf s0 ms (codes "hamt") (Some item) s1) → ((ms : Members) → HasEntries s1 ms → NextOf s1 ms hash_alg (Some hash) s2)
     → ((ms : Members) → HasEntries s2 ms → NextOf s2 ms bucket_size (Some bucket) s3) → EntriesGive s3 r s4 → is_some r ≡ false
-    → ((d : Data) → Stands hash d → int_of d ≡ Some (pos 18)) → ((d : Data) → Stands bucket d → int_of d ≡ Some (pos p.bucket)) → (d : Data) × (t ≡ root_map p d) × IsPart n item (place_of t 0) d
+    → ((d : Data) → HasData hash d → int_of d ≡ Some (pos 18)) → ((d : Data) → HasData bucket d → int_of d ≡ Some (pos p.bucket)) → (d : Data) × (t ≡ root_map p d) × IsPart n item (place_of t 0) d
 root-found p t n s0 s1 s2 s3 s4 item hash bucket r finds next0 next1 next2 gives ends eighteen size =
     let m = map_of t n s0 finds in
     let a = first_of_all s0 m.0 (codes "hamt") item s1 (next0 m.0 m.2.left) in

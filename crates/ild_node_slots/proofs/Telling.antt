@@ -7,7 +7,7 @@ use Rattle.std.proofs.lemmas.List.{length-append, drop_at}
 use Rattle.ild_data.specs.Data.{Data, bytes, list, Items, no_items, item, items_list}
 use Rattle.ild_data.specs.Spell.{head, spell}
 use Rattle.ild_cbor.specs.Chain.{chain}
-use Rattle.ild_cbor.specs.Nodes.{Stands, start_of}
+use Rattle.ild_cbor.specs.Nodes.{HasData, start_of}
 use Rattle.ild_cbor.specs.Scalar.{bytes_of}
 use Rattle.ild_cbor.specs.Spelled.{Holds}
 use Rattle.ild_cbor.specs.Steps.{HasItems, ItemsGive, Unfolded, UnfoldStep, Unfolds, items_of}
@@ -112,12 +112,12 @@ no_key : (a : Data) → None ≡ bytes_of a → key_in a ≡ None
 no_key (bytes k) is = absurd cc
 no_key a is = refl
 
-no_bytes : (s t u : ItemsLeft) (ds : Items) (y : Node × Node) (o : Option (Data × Data)) → PairNext s ds o (Some y) t → ((a : Data) → Stands y.0 a → None ≡ bytes_of a) → EntryNext s ds (option_and_then entry_of_pair o) None u
+no_bytes : (s t u : ItemsLeft) (ds : Items) (y : Node × Node) (o : Option (Data × Data)) → PairNext s ds o (Some y) t → ((a : Data) → HasData y.0 a → None ≡ bytes_of a) → EntryNext s ds (option_and_then entry_of_pair o) None u
 no_bytes s t u ds y None is keys = absurd is
 no_bytes s t u ds y (Some x) is keys =
     subst (λ (m : Option (List ℕ)). EntryNext s ds (option_map (λ k. (k, x.1)) m) None u) (sym (no_key x.0 (keys x.0 is.first))) tt
 
-pub entry-no_bytes : (s t u : ItemsLeft) (d : Data) (ds : Items) (y : Node × Node) → PairNext s ds (pair_in d) (Some y) t → ((a : Data) → Stands y.0 a → None ≡ bytes_of a) → EntryNext s ds (entry_in d) None u
+pub entry-no_bytes : (s t u : ItemsLeft) (d : Data) (ds : Items) (y : Node × Node) → PairNext s ds (pair_in d) (Some y) t → ((a : Data) → HasData y.0 a → None ≡ bytes_of a) → EntryNext s ds (entry_in d) None u
 entry-no_bytes s t u d ds y is keys = no_bytes s t u ds y (pair_in d) is keys
 
 -- a piece of a block, and what stands right behind it
@@ -163,12 +163,12 @@ entry_of : (s t : ItemsLeft) (ds : Items) (y : Node × Node) (a b : Data) (ones 
 entry_of s t ds y (bytes k) b ones r p is text = entry_made s t ds y k b (text_in k) r refl p (text ∙ ap text_in (some_same ones k is))
 entry_of s t ds y a b ones r p is text = absurd cc
 
-entry_by : (s t : ItemsLeft) (ds : Items) (y : Node × Node) (ones : List ℕ) (r : Option (Bor (List ℕ))) (o : Option (Data × Data)) → PairNext s ds o (Some y) t → ((a : Data) → Stands y.0 a → Some ones ≡ bytes_of a)
+entry_by : (s t : ItemsLeft) (ds : Items) (y : Node × Node) (ones : List ℕ) (r : Option (Bor (List ℕ))) (o : Option (Data × Data)) → PairNext s ds o (Some y) t → ((a : Data) → HasData y.0 a → Some ones ≡ bytes_of a)
     → option_map (λ s. s.now) r ≡ text_in ones → EntryNext s ds (option_and_then entry_of_pair o) (option_map (λ s. (s, y.1)) r) t
 entry_by s t ds y ones r None is keys text = absurd is
 entry_by s t ds y ones r (Some x) is keys text = entry_of s t ds y x.0 x.1 ones r is (keys x.0 is.first) text
 
-pub entry-told : (s t : ItemsLeft) (d : Data) (ds : Items) (y : Node × Node) (ones : List ℕ) (r : Option (Bor (List ℕ))) → PairNext s ds (pair_in d) (Some y) t → ((a : Data) → Stands y.0 a → Some ones ≡ bytes_of a)
+pub entry-told : (s t : ItemsLeft) (d : Data) (ds : Items) (y : Node × Node) (ones : List ℕ) (r : Option (Bor (List ℕ))) → PairNext s ds (pair_in d) (Some y) t → ((a : Data) → HasData y.0 a → Some ones ≡ bytes_of a)
     → option_map (λ s. s.now) r ≡ text_in ones → EntryNext s ds (entry_in d) (option_map (λ s. (s, y.1)) r) t
 entry-told s t d ds y ones r is keys text = entry_by s t ds y ones r (pair_in d) is keys text
 

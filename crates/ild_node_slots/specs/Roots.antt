@@ -3,7 +3,7 @@ use Rattle.std.specs.Prelude.{◌≡◌, ◌≢◌, ℕ, ℤ, pos, ◌+◌, List
 use Rattle.ild_data.specs.Data.{Data, Members, no_members, member}
 use Rattle.ild_cbor.specs.declared.node.Node.{Node}
 use Rattle.ild_cbor.specs.declared.pairs.Pairs.{Pairs}
-use Rattle.ild_cbor.specs.Nodes.{Stands, block_of, start_of}
+use Rattle.ild_cbor.specs.Nodes.{HasData, block_of, start_of}
 use Rattle.ild_data.specs.Spell.{spell_text}
 use Rattle.ild_cbor.specs.Scalar.{int_of}
 use Rattle.ild_cbor.specs.Span.{entry_of}
@@ -14,7 +14,7 @@ use Rattle.ild_cbor.specs.declared.why.Why.TheVariants as W
 -- the value of the first of these entries, where it has this key, and an iterator over the others
 pub record IsNext (s : Pairs) (k : List ℕ) (d : Data) (ms : Members) (key : List ℕ) (n : Node) (t : Pairs) : Type 0 where
   pub key_is : k ≡ key
-  pub stands : Stands n d
+  pub stands : HasData n d
   pub block_is : block_of n ≡ s.block.now
   pub start_is : start_of n ≡ s.from + length (spell_text k)
   pub left : HasEntries t ms

@@ -3,7 +3,7 @@ use Rattle.std.specs.Prelude.{◌≡◌, ℕ, ◌+◌, ◌++◌, length, List, B
 use Rattle.std.specs.Borrow.{Bor}
 use Rattle.ild_data.specs.Data.{Data, link, Items, no_items, item}
 use Rattle.ild_data.specs.Spell.{spell}
-use Rattle.ild_cbor.specs.Nodes.{Stands, block_of, start_of}
+use Rattle.ild_cbor.specs.Nodes.{HasData, block_of, start_of}
 use Rattle.ild_cbor.specs.Steps.{HasItems}
 use Rattle.ild_cbor.specs.declared.node.Node.{Node}
 use Rattle.ild_cbor.specs.declared.items.Items.{Items as ItemsLeft}
@@ -11,8 +11,8 @@ use Rattle.ild_typed.specs.NodeReading.{links_block, element_fits}
 
 -- nodes for the two items of the next one, the second behind the first, and an iterator behind both
 pub record PairTold (s : ItemsLeft) (ds : Items) (x : Data × Data) (y : Node × Node) (t : ItemsLeft) : Type 0 where
-  pub first : Stands y.0 x.0
-  pub second : Stands y.1 x.1
+  pub first : HasData y.0 x.0
+  pub second : HasData y.1 x.1
   pub first_block : block_of y.0 ≡ s.block.now
   pub second_block : block_of y.1 ≡ s.block.now
   pub place : start_of y.1 ≡ start_of y.0 + length (spell x.0)
@@ -30,7 +30,7 @@ PairNext s ds (Some x) None t = ⊥
 pub record EntryTold (s : ItemsLeft) (ds : Items) (e : List ℕ × Data) (r : Bor (List ℕ) × Node) (t : ItemsLeft) : Type 0 where
   pub key : r.0.now ≡ e.0
   pub text : IsUtf8 e.0
-  pub value : Stands r.1 e.1
+  pub value : HasData r.1 e.1
   pub front : List ℕ
   pub after : List ℕ
   pub here : s.block.now ≡ front ++ (e.0 ++ (spell e.1 ++ after))

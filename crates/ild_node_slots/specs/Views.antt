@@ -7,7 +7,7 @@ use Rattle.ild_data.specs.declared.hamt_shape.HamtShape.{HamtShape}
 use Rattle.std.specs.List.{flat_map}
 use Rattle.ild_data.specs.Trie.{TrieSlot, empty, bucket, child, map_of, elements_of, node_data}
 use Rattle.ild_node_slots.specs.Items.{IsAtItem}
-use Rattle.ild_cbor.specs.Nodes.{Stands, IsPart}
+use Rattle.ild_cbor.specs.Nodes.{HasData, IsPart}
 use Rattle.ild_cbor.specs.Span.{place_of}
 use Rattle.ild_cbor.specs.declared.node.Node.{Node}
 use Rattle.ild_node_slots.specs.Form.{AreTexts, IsNode, bucket_data}
@@ -30,7 +30,7 @@ view_shape v = v.shape
 
 -- the bucket has these entries
 pub record HasEntries (b : Bucket) (es : List (List ℕ × Data)) : Type 0 where
-  pub stands : Stands (bucket_node b) (bucket_data es)
+  pub stands : HasData (bucket_node b) (bucket_data es)
   pub texts : AreTexts es
 
 -- a key and a node for an entry at its place in the bucket, or neither
@@ -56,7 +56,7 @@ ValueIn whole es key (Some d) None = ⊥
 -- the node has these slots, of a HAMT of this shape
 pub record HasSlots (p : HamtShape) (v : NodeView) (slots : List TrieSlot) : Type 0 where
   pub shape : view_shape v ≡ p
-  pub stands : Stands (view_node v) (node_data slots)
+  pub stands : HasData (view_node v) (node_data slots)
   pub map : v.map.now ≡ map_of slots
   pub part : IsPart v.node v.data (place_of (node_data slots) 1) (elements_data slots)
   pub elements : IsAtItem v.data (flat_map elements_of slots) 0 v.elements
@@ -65,7 +65,7 @@ pub record HasSlots (p : HamtShape) (v : NodeView) (slots : List TrieSlot) : Typ
 -- the item is a node of this shape
 pub record IsNodeItem (p : HamtShape) (n : Node) : Type 0 where
   pub slots : List TrieSlot
-  pub stands : Stands n (node_data slots)
+  pub stands : HasData n (node_data slots)
   pub form : IsNode p slots
 
 -- the bucket of these entries that is the element of a slot, at its place in the node

@@ -2,7 +2,7 @@
 ghost use Rattle.std.specs.Prelude.{◌≡◌, ℕ, List, IsOk, IfOk, IfErr, IsSome, IfSome, MatchOption, false};
 ghost use Rattle.ild_data.specs.Data.{Data};
 ghost use Rattle.ild_data.specs.Trie.{TrieSlot, node_data};
-ghost use Rattle.ild_cbor.specs.Nodes.{Stands};
+ghost use Rattle.ild_cbor.specs.Nodes.{HasData};
 ghost use Rattle.ild_node_slots.specs.Form.{IsNode};
 ghost use Rattle.ild_node_slots.specs.inside.Parts.{IsViewOf};
 ghost use Rattle.ild_typed.specs.NodeReading.{node_fits};
@@ -16,7 +16,7 @@ use ild_data::HamtShape;
 /// The node of a HAMT of this shape that an item is, of which is known that it is one: its elements aren't gone over.
 pub fn known_node<'b>(node: Node<'b>, shape: HamtShape) -> Option<NodeView<'b>>
     requires { ∥ IsNodeItem shape node ∥₁ }
-    ensures { (slots : List TrieSlot) → Stands node.entry (node_data slots) → IsNode shape slots → IsSome result × IfSome result (λ v. HasSlots shape v slots) }
+    ensures { (slots : List TrieSlot) → HasData node.entry (node_data slots) → IsNode shape slots → IsSome result × IfSome result (λ v. HasSlots shape v slots) }
 {
     let (ones, data) = pair_in(&node)?;
     let map = ones.bytes()?;
@@ -33,7 +33,7 @@ pub fn known_node<'b>(node: Node<'b>, shape: HamtShape) -> Option<NodeView<'b>>
 // The view of a node of this shape, or `None` where the item is none.
 fn view_of<'b>(node: Node<'b>, shape: HamtShape) -> Option<NodeView<'b>>
     ensures node { IfSome result (λ v. view_node v ≡ node.entry) }
-    ensures view { (t : Data) → Stands node.entry t → MatchOption result (node_fits shape t ≡ false) (λ v. IsViewOf v node.entry shape t) }
+    ensures view { (t : Data) → HasData node.entry t → MatchOption result (node_fits shape t ≡ false) (λ v. IsViewOf v node.entry shape t) }
 {
     let (ones, data) = pair_in(&node)?;
     let map = ones.bytes()?;
@@ -53,9 +53,9 @@ fn view_of<'b>(node: Node<'b>, shape: HamtShape) -> Option<NodeView<'b>>
 /// The node of a HAMT of this shape that an item is.
 pub fn node_of<'b>(node: Node<'b>, shape: HamtShape) -> Result<NodeView<'b>, Why>
     // What is read is a node.
-    ensures found { (t : Data) → Stands node.entry t → IfOk result (λ v. (slots : List TrieSlot) × (t ≡ node_data slots) × HasSlots shape v slots) }
+    ensures found { (t : Data) → HasData node.entry t → IfOk result (λ v. (slots : List TrieSlot) × (t ≡ node_data slots) × HasSlots shape v slots) }
     // A node is read, as its slots.
-    ensures only { (slots : List TrieSlot) → Stands node.entry (node_data slots) → IsNode shape slots → IsOk result × IfOk result (λ v. HasSlots shape v slots) }
+    ensures only { (slots : List TrieSlot) → HasData node.entry (node_data slots) → IsNode shape slots → IsOk result × IfOk result (λ v. HasSlots shape v slots) }
     ensures item { IfOk result (λ v. view_node v ≡ node.entry) }
     ensures err { IfErr result (λ why. why ≡ Why.Trie) }
 {

@@ -2,7 +2,7 @@
 ghost use Rattle.std.specs.Prelude.{◌≡◌, ◌≤◌, slice_index, ℕ, List, ◌↔◌, IsTrue, option_map, map, None, Some};
 ghost use Rattle.std.specs.FinMap.{find};
 ghost use Rattle.ild_data.specs.Data.{Data, Items as DataItems, items_of, bytes, list};
-ghost use Rattle.ild_cbor.specs.Nodes.{Stands};
+ghost use Rattle.ild_cbor.specs.Nodes.{HasData};
 ghost use Rattle.ild_cbor.specs.Scalar.{bytes_of};
 ghost use Rattle.ild_cbor.specs.Steps.{HasItems};
 ghost use Rattle.ild_data.specs.ByteOrder.{bytewise};
@@ -22,7 +22,7 @@ const BLOCK_CID: usize = 36;
 
 /// The two items of a list of two.
 pub(crate) fn pair_in<'b>(node: &Node<'b>) -> Option<(Node<'b>, Node<'b>)>
-    ensures { (t : Data) → Stands node.now t → PairIs node.now t (pair_in t) result }
+    ensures { (t : Data) → HasData node.now t → PairIs node.now t (pair_in t) result }
 {
     node.pair()
 }
@@ -39,7 +39,7 @@ pub(crate) fn text_in(bytes: &[u8]) -> Option<&str>
 
 /// The key and the value of an entry.
 pub(crate) fn entry_in<'b>(node: &Node<'b>) -> Option<(&'b str, Node<'b>)>
-    ensures { (t : Data) → Stands node.now t → EntryIn node.now t (entry_in t) result }
+    ensures { (t : Data) → HasData node.now t → EntryIn node.now t (entry_in t) result }
 {
     let (key, value) = pair_in(node)?;
     match text_in(key.bytes()?) {
@@ -60,7 +60,7 @@ pub fn rises(last: Option<&str>, key: &str) -> bool
 
 // Whether an item is this byte string.
 fn is_bytes(node: &Node<'_>, wanted: &[u8]) -> bool
-    ensures { (t : Data) → Stands node.now t → IsTrue result ↔ (bytes_of t ≡ Some wanted.now) }
+    ensures { (t : Data) → HasData node.now t → IsTrue result ↔ (bytes_of t ≡ Some wanted.now) }
 {
     match node.bytes() {
         Some(bytes) => bytes == wanted,
@@ -83,7 +83,7 @@ pub(crate) fn value_at<'b>(bucket: &Node<'b>, entries: Items<'b>, key: &[u8]) ->
 
 /// The id of the block that a link leads to, where the item is such a link.
 pub fn child_in(node: &Node<'_>) -> Option<BlockId>
-    ensures { (t : Data) → Stands node.now t → option_map (λ id. id.0) result ≡ child_in t }
+    ensures { (t : Data) → HasData node.now t → option_map (λ id. id.0) result ≡ child_in t }
 {
     match node.link() {
         Some(cid) => cid.block(),

@@ -2,7 +2,7 @@
 ghost use Rattle.std.specs.Prelude.{◌≡◌, ◌↔◌, ℕ, List, pos, Err, Some, IsTrue, IsSome, IsOk, IfSome, IfOk, IfErr};
 ghost use Rattle.ild_data.specs.Data.{Data, Members};
 ghost use Rattle.ild_data.specs.Trie.{TrieSlot, node_data};
-ghost use Rattle.ild_cbor.specs.Nodes.{Stands, IsPart};
+ghost use Rattle.ild_cbor.specs.Nodes.{HasData, IsPart};
 ghost use Rattle.ild_cbor.specs.Scalar.{int_of};
 ghost use Rattle.ild_cbor.specs.Span.{place_of};
 ghost use Rattle.ild_cbor.specs.Steps.{HasEntries};
@@ -31,7 +31,7 @@ fn next_at<'b>(entries: &mut Pairs<'b>, key: &str) -> Option<Node<'b>>
 }
 
 fn is_int(node: &Node<'_>, wanted: u32) -> bool
-    ensures { (t : Data) → Stands node.now t → IsTrue result ↔ (int_of t ≡ Some (pos wanted)) }
+    ensures { (t : Data) → HasData node.now t → IsTrue result ↔ (int_of t ≡ Some (pos wanted)) }
 {
     match node.int() {
         Some(n) => n.get() == wanted as i128,
@@ -40,7 +40,7 @@ fn is_int(node: &Node<'_>, wanted: u32) -> bool
 }
 
 fn has_other_int(node: &Node<'_>, key: &str, wanted: u32) -> bool
-    ensures { (t : Data) → Stands node.now t → IsTrue result ↔ HasOtherInt t key.now wanted }
+    ensures { (t : Data) → HasData node.now t → IsTrue result ↔ HasOtherInt t key.now wanted }
 {
     match node.entry(key) {
         Some(value) => match value.int() {
@@ -53,8 +53,8 @@ fn has_other_int(node: &Node<'_>, key: &str, wanted: u32) -> bool
 
 // The node's item of a root map.
 fn root_item<'b>(node: &Node<'b>, shape: HamtShape) -> Option<Node<'b>>
-    ensures found { (t : Data) → Stands node.now t → IfSome result (λ n. (d : Data) × (t ≡ root_map shape d) × IsPart node.now n (place_of t 0) d) }
-    ensures only { (d : Data) → Stands node.now (root_map shape d) → IsSome result }
+    ensures found { (t : Data) → HasData node.now t → IfSome result (λ n. (d : Data) × (t ≡ root_map shape d) × IsPart node.now n (place_of t 0) d) }
+    ensures only { (d : Data) → HasData node.now (root_map shape d) → IsSome result }
 {
     let mut entries = node.entries()?;
     let item = next_at(&mut entries, "hamt")?;
@@ -75,12 +75,12 @@ fn root_item<'b>(node: &Node<'b>, shape: HamtShape) -> Option<Node<'b>>
 /// The node of a HAMT of this shape whose root an item is.
 pub fn root_of<'b>(node: Node<'b>, shape: HamtShape) -> Result<NodeView<'b>, Why>
     // What is read is a root, and the view is that of its node, which stands behind its name.
-    ensures found { (t : Data) → Stands node.entry t → IfOk result (λ v. (slots : List TrieSlot) × IsRoot shape slots t × HasSlots shape v slots × IsPart node.entry (view_node v) (place_of t 0) (node_data slots)) }
+    ensures found { (t : Data) → HasData node.entry t → IfOk result (λ v. (slots : List TrieSlot) × IsRoot shape slots t × HasSlots shape v slots × IsPart node.entry (view_node v) (place_of t 0) (node_data slots)) }
     // A root is read, as the slots of its node.
-    ensures only { (slots : List TrieSlot) (t : Data) → Stands node.entry t → IsRoot shape slots t → IsOk result × IfOk result (λ v. HasSlots shape v slots) }
+    ensures only { (slots : List TrieSlot) (t : Data) → HasData node.entry t → IsRoot shape slots t → IsOk result × IfOk result (λ v. HasSlots shape v slots) }
     // Another hash is told first, then another size of buckets, also of a map that is no root otherwise.
-    ensures hash { (t : Data) → Stands node.entry t → (result ≡ Err Why.HashAlg) ↔ HasOtherInt t hash_alg 18 }
-    ensures size { (t : Data) → Stands node.entry t → (result ≡ Err Why.BucketSize) ↔ ((HasOtherInt t hash_alg 18 → ⊥) × HasOtherInt t bucket_size shape.bucket) }
+    ensures hash { (t : Data) → HasData node.entry t → (result ≡ Err Why.HashAlg) ↔ HasOtherInt t hash_alg 18 }
+    ensures size { (t : Data) → HasData node.entry t → (result ≡ Err Why.BucketSize) ↔ ((HasOtherInt t hash_alg 18 → ⊥) × HasOtherInt t bucket_size shape.bucket) }
     ensures err { IfErr result IsRootWhy }
 {
     if has_other_int(&node, "hashAlg", SHA2_256) {

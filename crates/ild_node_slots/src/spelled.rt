@@ -3,7 +3,7 @@ ghost use Rattle.std.specs.Prelude.{◌≡◌, IfOk};
 ghost use Rattle.ild_data.specs.Data.{Data};
 ghost use Rattle.ild_data.specs.Limits.{IsWithin};
 ghost use Rattle.ild_data.specs.Spell.{spell};
-ghost use Rattle.ild_cbor.specs.Nodes.{Stands};
+ghost use Rattle.ild_cbor.specs.Nodes.{HasData};
 ghost use Rattle.ild_typed.specs.Nested.{IsBlock};
 
 use ild_cbor::Node;
@@ -33,7 +33,7 @@ impl Model for Spelled {
 impl Spelled {
     /// The spelling of a node, copied from its block.
     pub fn of(alloc: Global, node: &Node<'_>) -> Result<Spelled, AllocError>
-        ensures same { (t : Data) → Stands node.now t → IfOk result (λ s. s ≡ t) }
+        ensures same { (t : Data) → HasData node.now t → IfOk result (λ s. s ≡ t) }
         ensures within { IfOk result IsWithin }
     {
         let bytes = Octets::of(alloc, node.spelling())?;

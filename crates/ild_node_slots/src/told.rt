@@ -2,7 +2,7 @@
 ghost use Rattle.std.specs.Prelude.{◌≡◌, length, None};
 ghost use Rattle.ild_data.specs.Data.{Data, Items as DataItems, item, items_list};
 ghost use Rattle.ild_cbor.specs.Chain.{chain};
-ghost use Rattle.ild_cbor.specs.Nodes.{Stands};
+ghost use Rattle.ild_cbor.specs.Nodes.{HasData};
 ghost use Rattle.ild_cbor.specs.Steps.{HasItems};
 ghost use Rattle.ild_typed.specs.NodeReading.{pair_in, entry_in, are_entries};
 ghost use Rattle.ild_node_slots.specs.Told.{PairNext, EntryNext, Told, ElementTold, link_fits};
@@ -54,7 +54,7 @@ fn next_entries(items: &mut Items<'_>, count: u64) -> bool
 
 // Whether an item is the link of a block.
 fn links(node: &Node<'_>) -> bool
-    ensures { (t : Data) → Stands node.now t → result ≡ link_fits t }
+    ensures { (t : Data) → HasData node.now t → result ≡ link_fits t }
 {
     match node.link() {
         Some(cid) => links_block(cid.whole()),

@@ -3,7 +3,7 @@ ghost use Rattle.std.specs.Prelude.{◌≡◌, List};
 ghost use Rattle.ild_data.specs.Data.{Data};
 ghost use Rattle.ild_data.specs.Trie.{TrieSlot};
 ghost use Rattle.ild_data.specs.declared.hamt_shape.HamtShape.{HamtShape};
-ghost use Rattle.ild_cbor.specs.Nodes.{Stands};
+ghost use Rattle.ild_cbor.specs.Nodes.{HasData};
 ghost use Rattle.ild_typed.specs.NodeReading.{child_in};
 ghost use Rattle.ild_node_slots.specs.Views.{HasSlots, SlotIs, ElementIs, view_node, view_shape};
 
@@ -32,7 +32,7 @@ pub enum NodeSlot<'b> {
 
 /// What an element of a node is: the link of a child, or else a bucket.
 pub(crate) fn slot_in(element: Node<'_>) -> NodeSlot<'_>
-    ensures { (t : Data) → Stands element.entry t → ElementIs result element.entry (child_in t) }
+    ensures { (t : Data) → HasData element.entry t → ElementIs result element.entry (child_in t) }
 {
     match child_in(&element) {
         Some(id) => NodeSlot::Child(id),

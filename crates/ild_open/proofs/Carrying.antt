@@ -9,7 +9,7 @@ use Rattle.std.proofs.lemmas.Bool.{false≢true}
 use Rattle.std.proofs.lemmas.Option.{same_Some, none-some}
 use Rattle.ild_cbor.proofs.Blocks.{one_tree_lem}
 use Rattle.ild_cbor.specs.declared.node.Node.{Node}
-use Rattle.ild_cbor.specs.Nodes.{Stands}
+use Rattle.ild_cbor.specs.Nodes.{HasData}
 use Rattle.ild_cbor.specs.Scalar.{kind_of}
 use Rattle.ild_cbor.specs.declared.kind.Kind.{Kind}
 use Rattle.ild_cbor.specs.declared.kind.Kind.TheVariants as K
@@ -107,14 +107,14 @@ module _ (h : List ℕ → List ℕ) (rows : List Row) (s : Slot) where
       by t (Err F.Memory) y = tt
 
   -- of an item that spells the data
-  pub loads_spelled : (q : Node) (d : Data) (m n : Moment) (r : Result Val OpenFault) → Stands q d → LoadsFlat h rows s (P.Node q) m r n → LoadsAlone h rows s d m r n
+  pub loads_spelled : (q : Node) (d : Data) (m n : Moment) (r : Result Val OpenFault) → HasData q d → LoadsFlat h rows s (P.Node q) m r n → LoadsAlone h rows s d m r n
   loads_spelled q d m n r stands x = record { only = x.only; loads = λ front. x.each d stands front }
 
 -- the item of bytes that spell the data
-pub spelled_tree : (rows : List Row) (s : Slot) (q : Node) (d : Data) → Stands q d → ∥ HasFront rows 96 (s, d) ∥₁ → ∥ IsChecked rows 96 s (P.Node q) ∥₁
+pub spelled_tree : (rows : List Row) (s : Slot) (q : Node) (d : Data) → HasData q d → ∥ HasFront rows 96 (s, d) ∥₁ → ∥ IsChecked rows 96 s (P.Node q) ∥₁
 spelled_tree rows s q d stands some = ∥∥₁_map some (λ front. record { tree = d; stands = stands; front = front })
 
-pub spelled_flat : (q : Node) (d : Data) → Stands q d → IsFlat d → (t : Data) → Stands q t → IsFlat t
+pub spelled_flat : (q : Node) (d : Data) → HasData q d → IsFlat d → (t : Data) → HasData q t → IsFlat t
 spelled_flat q d stands flat t other = subst IsFlat (one_tree_lem _ _ _ _ d t stands other) flat
 
 -- data of another kind than lists and maps
@@ -143,16 +143,16 @@ is_numbered rows b p e le = by p (subst (λ c. body_types c ≤ length rows) (he
   by (P.Inline n u) le = omega (arith, le)
 
 -- the tree of an implicit value is the data for which it stands
-implied : (view : View) (d : Data) (b : Body) → body_of view ≡ b → piece_in b ≡ None → ∥ V.HasFront (table_of view) (slot_of view) (body_of view) ∥₁
+implied : (view : View) (d : Data) (b : Body) → body_of view ≡ b → piece_in b ≡ None → ∥ V.BodyHasFront (table_of view) (slot_of view) (body_of view) ∥₁
     → ((f : Value) → IsView view f → represented alone (table_of view) (slot_of view) f ≡ Some d) → (t : Data) → BodyStands (table_of view) b t → d ≡ t
 implied view d (VB.Held p) is none some tells t stands = absurd (none-some p (sym none))
 implied view d (VB.Implicit k) is none some tells t stands = scalar_same k.now d (∥∥₁_elim some (Bool-set (is_scalar k.now d) true) own) ∙ sym (scalar_same k.now t stands) where
-  own : V.HasFront (table_of view) (slot_of view) (body_of view) → is_scalar k.now d ≡ true
+  own : V.BodyHasFront (table_of view) (slot_of view) (body_of view) → is_scalar k.now d ≡ true
   own y =
       let same = same_Some y.tree d (sym y.front.tree ∙ tells y.value (record { room = y.room; tree = y.tree; stands = y.stands; front = y.front })) in
       subst (λ u. is_scalar k.now u ≡ true) same (subst (λ b. BodyStands (table_of view) b y.tree) is y.stands)
 
-pub scalar_is : (view : View) (d : Data) → piece_of view ≡ None → ∥ V.HasFront (table_of view) (slot_of view) (body_of view) ∥₁
+pub scalar_is : (view : View) (d : Data) → piece_of view ≡ None → ∥ V.BodyHasFront (table_of view) (slot_of view) (body_of view) ∥₁
     → ((f : Value) → IsView view f → represented alone (table_of view) (slot_of view) f ≡ Some d) → (t : Data) → BodyStands (table_of view) (body_of view) t → d ≡ t
 scalar_is view d none some tells t stands = implied view d (body_of view) refl none some tells t stands
 

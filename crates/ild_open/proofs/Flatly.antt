@@ -9,7 +9,7 @@ use Rattle.ild_data.specs.Data.{Data}
 use Rattle.ild_data.specs.Key.{put, value_at}
 use Rattle.ild_schema.specs.DataKinds.{same_kind}
 use Rattle.ild_schema.specs.Hex.{bytes_of_hex}
-use Rattle.ild_schema.specs.Marks.{text_of as mark_text, kind_of as mark_kind}
+use Rattle.ild_schema.specs.Marks.{mark_text, mark_kind}
 use Rattle.ild_schema.specs.declared.def.Field.{Field}
 use Rattle.ild_schema.specs.declared.def.MapForm.{MapForm}
 use Rattle.ild_schema.specs.declared.def.MapForm.TheVariants as MF
@@ -28,7 +28,7 @@ use Rattle.ild_typed.proofs.Treed.{all_at}
 use Rattle.ild_typed.specs.Composed.{composed, inlined, map_form, marked_form, member_form, struct_form}
 use Rattle.ild_typed.specs.Fields.{field_entries, tuple_items}
 use Rattle.ild_typed.specs.Hamt.{alone}
-use Rattle.ild_typed.specs.Kinds.{kind_of}
+use Rattle.ild_typed.specs.Kinds.{kind_word_of}
 use Rattle.ild_typed.specs.Layer as L
 use Rattle.ild_typed.specs.Layer.{Layer}
 use Rattle.ild_typed.specs.Pieces.{needs}
@@ -80,8 +80,8 @@ by_mark form d m t e flat = let x = then_from (marked_form form d) (mark_text m.
 
 member_flat : (form : UnionForm) (d : Data) (m : Member) (t : Data) → member_form form d m ≡ Some t → IsFlat t → IsFlat d
 member_flat UF.Kinded d m t e flat =
-    let x = then_from (λ k. cond (same_kind k (kind_of d)) (Some d) None) (mark_kind m.mark) t e in
-    subst IsFlat (sym (true_from (same_kind x.item (kind_of d)) d t x.made).1) flat
+    let x = then_from (λ k. cond (same_kind k (kind_word_of d)) (Some d) None) (mark_kind m.mark) t e in
+    subst IsFlat (sym (true_from (same_kind x.item (kind_word_of d)) d t x.made).1) flat
 member_flat UF.Keyed d m t e flat = by_mark UF.Keyed d m t e flat
 member_flat UF.StringPrefix d m t e flat = by_mark UF.StringPrefix d m t e flat
 member_flat UF.BytesPrefix d m t e flat = by_mark UF.BytesPrefix d m t e flat

@@ -42,7 +42,7 @@ use Rattle.ild_open_parts.specs.Reads.{HasValue as HasPart, Reads}
 use Rattle.ild_open_parts.specs.declared.fault.OpenFault.{OpenFault}
 use Rattle.ild_open_parts.specs.declared.fault.OpenFault.TheVariants as F
 use Rattle.ild_open.specs.Broken.{IsWrongRoot}
-use Rattle.ild_open.specs.inside.Found.{FindAnswer, Finds, HasKept, IsKept, Judges, ReadsRoot}
+use Rattle.ild_open.specs.inside.Found.{FindAnswer, GetFinds, HasKept, IsKept, Judges, ReadsRoot}
 use Rattle.ild_open.specs.Opened.{HasOpened, HasValue, StandsInBlock, NoneStands, OpenStops, Opens}
 use Rattle.ild_open_parts.proofs.Breaking.{broken_earlier, rose_later}
 
@@ -111,12 +111,12 @@ module _ (rows : List Row) (schema : IsSchema rows) (h : List ℕ → List ℕ) 
     few_gets : (m n : Moment) → n.gets ≤ m.gets + 1 → (held : List (List ℕ)) (v : Value) (st : Standing held v) → n.gets ≤ m.gets + length (blocks_of bare h rows ty v st.tree)
     few_gets m n few held v st = let e = many_gets held v st in omega (arith, few, e)
 
-    pub open_stops : {A : Type 0} (Done : A → Type 0) (m n : Moment) (e : OpenFault) → Finds rows ty id m (Err e) n → Opens Done h rows ty id m (Err e) n
+    pub open_stops : {A : Type 0} (Done : A → Type 0) (m n : Moment) (e : OpenFault) → GetFinds rows ty id m (Err e) n → Opens Done h rows ty id m (Err e) n
     open_stops Done m n e x = record { answer = found_stops m n e x.answer; only = x.only; gets = λ held v told st. few_gets m n x.gets held v st }
 
   -- ---- where it is one
 
-  module _ (m k n : Moment) (d : Doc) (x : Finds rows ty id m (Ok d) k) (keep : Bool) where
+  module _ (m k n : Moment) (d : Doc) (x : GetFinds rows ty id m (Ok d) k) (keep : Bool) where
     abbrev t : Data
     t = x.answer.root.root.tree
 
@@ -190,7 +190,7 @@ module _ (h : List ℕ → List ℕ) (rows : List Row) (ty : TypeNo) (id : List 
   }
 
 -- the block that a get gave is the root block, or why it is none
-pub found : (rows : List Row) (ty : TypeNo) (id b : List ℕ) (m n : Moment) (r : Result Doc OpenFault) → Judges rows ty id b r → Gets m id (Ok (Some b)) n → Finds rows ty id m r n
+pub found : (rows : List Row) (ty : TypeNo) (id b : List ℕ) (m n : Moment) (r : Result Doc OpenFault) → Judges rows ty id b r → Gets m id (Ok (Some b)) n → GetFinds rows ty id m r n
 found rows ty id b m n r judged got = record { answer = by r judged; only = get_reads m n id (Ok (Some b)) got; gets = let many = got.gets in omega (arith, many) }
   where
     here : IsUnder m.blocks id b

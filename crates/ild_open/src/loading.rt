@@ -1,6 +1,6 @@
 //! Loading the value at a view.
 ghost use Rattle.std.specs.Prelude.{◌≡◌, ◌<◌, length, false, true};
-ghost use Rattle.ild_cbor.specs.Nodes.{Stands};
+ghost use Rattle.ild_cbor.specs.Nodes.{HasData};
 ghost use Rattle.ild_cbor.specs.declared.piece.Piece.TheVariants as P;
 ghost use Rattle.ild_data.specs.Data.{Data};
 ghost use Rattle.ild_data.specs.Seen.{data_of};
@@ -115,7 +115,7 @@ fn load_alone<K: Store, H: KeyHash>(
 
 // Whether an item is a list or a map.
 fn is_nest(node: &Node<'_>) -> bool
-    ensures { result ≡ false → (t : Data) → Stands node.now t → IsFlat t }
+    ensures { result ≡ false → (t : Data) → HasData node.now t → IsFlat t }
 {
     match node.kind() {
         Kind::List => true,

@@ -3,7 +3,7 @@ ghost use Rattle.std.specs.Prelude.{◌≡◌, ◌<◌, None, length};
 ghost use Rattle.ild_cbor.specs.Reading.{fault_of};
 ghost use Rattle.ild_data.specs.Bytes.{AreBytes};
 ghost use Rattle.ild_view_doc.specs.Block.{HasRoot};
-ghost use Rattle.ild_open.specs.inside.Found.{Finds, HasKept, Judges, ReadsRoot};
+ghost use Rattle.ild_open.specs.inside.Found.{GetFinds, HasKept, Judges, ReadsRoot};
 ghost use Rattle.ild_open.specs.Opened.{HasOpened, HasValue, Opens};
 
 use ild_cbor::{BlockWhy, Piece, known_root};
@@ -48,7 +48,7 @@ fn find<'s, K: Store>(
     store: &mut K,
 ) -> Result<Doc<'s>, OpenFault>
     requires { ty.0 < length acc.now }
-    ensures { Finds acc.now ty id.now.0 (K.moment store.old) result (K.moment store.new) }
+    ensures { GetFinds acc.now ty id.now.0 (K.moment store.old) result (K.moment store.new) }
 {
     match store.get(id) {
         Ok(Some(block)) => judge(alloc, acc, ty, id, block),

@@ -53,7 +53,7 @@ use Rattle.ild_typed.proofs.ViewMaps.{SameKeys, keys_like, map_fitted}
 use Rattle.ild_typed.proofs.Wholes.{ids_tell, one_within, whole_exact}
 use Rattle.ild_open_held.specs.Held.{IsHeld, IsHeldBlock}
 use Rattle.ild_open_held.specs.Entries.{HamtsSplit, IsMapOf}
-use Rattle.ild_open_held.specs.Splits.{AreHeld, entry_parts, entry_values, nodes_in}
+use Rattle.ild_open_held.specs.Splits.{PartsHaveValues, entry_parts, entry_values, nodes_in}
 use Rattle.ild_open_held.proofs.Fitting.{fits_down, fits_up}
 use Rattle.ild_open_held.proofs.Parting.{EntryFits, KeyFits, all_join, pairs_back, pairs_up}
 
@@ -99,7 +99,7 @@ module _ (block : List ℕ → Option (List ℕ)) (h : List ℕ → List ℕ) (p
 
   -- entries in the key order, with values
   pub hamt_up : (fs : List (List ℕ × Data)) (vs : List Value) → Rises fs → AllByRecursion (KeyFits (λ b. Some b) (λ k. k) rows less key) fs → whole h p (L.map fs) ≡ Some t → AllByRecursion Held (beneath fs)
-      → AreHeld block h rows less (entry_parts value fs) vs → IsHeld block h rows room s t (V.map (pairs_of (entry_values fs vs)))
+      → PartsHaveValues block h rows less (entry_parts value fs) vs → IsHeld block h rows room s t (V.map (pairs_of (entry_values fs vs)))
   hamt_up fs vs rises keys made below all =
       let x = pairs_up block h rows less key value fs vs keys all in
       let ps = entry_values fs vs in
@@ -120,7 +120,7 @@ module _ (block : List ℕ → Option (List ℕ)) (h : List ℕ → List ℕ) (p
     pub made : whole h p (L.map entries) ≡ Some t
     pub below : AllByRecursion Held (beneath entries)
     pub values : List Value
-    pub held : AreHeld block h rows less (entry_parts value entries) values
+    pub held : PartsHaveValues block h rows less (entry_parts value entries) values
     pub is_map : v ≡ V.map (pairs_of (entry_values entries values))
     pub many : length (nodes h rows s v) ≡ length (beneath entries) + nodes_in h rows (entry_parts value entries) values
     pub pairs : Pairs

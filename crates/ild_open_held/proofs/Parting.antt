@@ -15,7 +15,7 @@ use Rattle.ild_schema.specs.Value.{Value, Values, Pairs, Optionals, values_of, v
 use Rattle.ild_typed.specs.Blocks.{nodes, nodes_of_values, nodes_of_pairs, nodes_of_fields}
 use Rattle.ild_typed.specs.Fits.{Fits}
 use Rattle.ild_typed.specs.Hamt.{whole}
-use Rattle.ild_typed.specs.Layers.{FieldsFit, Shows}
+use Rattle.ild_typed.specs.Layers.{FieldsFit, RepresentsSome}
 use Rattle.ild_typed.specs.Represented.{represented, represented_values, represented_pairs, represented_fields}
 use Rattle.ild_typed.specs.Strings.{cons_both}
 use Rattle.ild_typed.proofs.Basics.{map_from}
@@ -23,7 +23,7 @@ use Rattle.ild_typed.proofs.Entries.{both_from}
 use Rattle.ild_typed.proofs.TreeNodes.{all_split}
 use Rattle.ild_typed.proofs.ViewMaps.{SameKeys}
 use Rattle.ild_open_held.specs.Held.{IsHeld, IsHeldBlock}
-use Rattle.ild_open_held.specs.Splits.{AreHeld, element_parts, entry_parts, entry_values, field_parts, field_values, nodes_in}
+use Rattle.ild_open_held.specs.Splits.{PartsHaveValues, element_parts, entry_parts, entry_values, field_parts, field_values, nodes_in}
 
 pub all_join : {X : Type 0} (P : X → Type 0) (xs ys : List X) → AllByRecursion P xs → AllByRecursion P ys → AllByRecursion P (xs ++ ys)
 all_join P [] ys a b = b
@@ -34,7 +34,7 @@ module _ (block : List ℕ → Option (List ℕ)) (h : List ℕ → List ℕ) (r
   Held = IsHeldBlock block
 
   abbrev pub Are : List (Slot × Data) → List Value → Type 0
-  Are ps vs = AreHeld block h rows room ps vs
+  Are ps vs = PartsHaveValues block h rows room ps vs
 
   -- ---- elements
 
@@ -74,10 +74,10 @@ module _ (block : List ℕ → Option (List ℕ)) (h : List ℕ → List ℕ) (r
   -- ---- entries
 
   abbrev pub KeyFits : TypeNo → List ℕ × Data → Type 0
-  KeyFits key e = IsUtf8 e.0 × Shows (Fits rows room) rows (plainly key) (T.text e.0)
+  KeyFits key e = IsUtf8 e.0 × RepresentsSome (Fits rows room) rows (plainly key) (T.text e.0)
 
   abbrev pub EntryFits : TypeNo → Slot → List ℕ × Value → Type 0
-  EntryFits key u p = IsUtf8 p.0 × Shows (Fits rows room) rows (plainly key) (T.text p.0) × Fits rows room u p.1
+  EntryFits key u p = IsUtf8 p.0 × RepresentsSome (Fits rows room) rows (plainly key) (T.text p.0) × Fits rows room u p.1
 
   pub record PairsUp (key : TypeNo) (u : Slot) (es : List (List ℕ × Data)) (vs : List Value) : Type 0 where
     pub fit : AllByRecursion (EntryFits key u) (entry_values es vs)

@@ -30,7 +30,7 @@ use Rattle.ild_typed.specs.Fits.{Fits}
 use Rattle.ild_typed.specs.Hamt.{alone, whole}
 use Rattle.ild_typed.specs.Layer as L
 use Rattle.ild_typed.specs.Layer.{Layer}
-use Rattle.ild_typed.specs.Layers.{AreKeys, EntriesFit, FieldsFit, MapFits, Shows}
+use Rattle.ild_typed.specs.Layers.{AreKeys, EntriesFit, FieldsFit, MapFits, RepresentsSome}
 use Rattle.ild_typed.specs.Levels.{map_levels, struct_levels}
 use Rattle.ild_typed.specs.Pieces.{is_null_there}
 use Rattle.ild_typed.specs.Represented.{layered, represented, represented_values, represented_pairs, represented_fields}
@@ -44,7 +44,7 @@ use Rattle.ild_typed.proofs.ViewMaps.{SameKeys, keys_like, map_fitted}
 use Rattle.ild_typed.proofs.Views.{Fields, data_of_fields, elements_of_values}
 use Rattle.ild_open_held.specs.Held.{IsHeld, IsHeldBlock}
 use Rattle.ild_open_held.specs.Laws.{IsFronted, is_hamt, ListsSplit, MapsSplit, StructsSplit, UnionsSplit}
-use Rattle.ild_open_held.specs.Splits.{AreHeld, HasFront, IsMadeOf, Splits, element_parts, entry_parts, entry_values, field_parts, field_values, nodes_in, union_of}
+use Rattle.ild_open_held.specs.Splits.{PartsHaveValues, HasFront, IsMadeOf, Splits, element_parts, entry_parts, entry_values, field_parts, field_values, nodes_in, union_of}
 use Rattle.ild_open_held.proofs.Fitting.{fits_down, fits_up, layer_back}
 use Rattle.ild_open_held.proofs.Parting.{EntryFits, FieldsBack, Held, KeyFits, PairsBack, Shape, fields_back, fields_up, pairs_back, pairs_up, values_back, values_up}
 
@@ -52,7 +52,7 @@ values_of-values_list : (vs : Values) → values_of (values_list vs) ≡ vs
 values_of-values_list V.no_values = refl
 values_of-values_list (V.value v vs) = ap (V.value v) (values_of-values_list vs)
 
-element_fronts : (rows : List Row) (less : ℕ) (elem : Slot) (ds : List Data) → AllByRecursion (Shows (Fits rows less) rows elem) ds → AllByRecursion (HasFront rows less) (element_parts elem ds)
+element_fronts : (rows : List Row) (less : ℕ) (elem : Slot) (ds : List Data) → AllByRecursion (RepresentsSome (Fits rows less) rows elem) ds → AllByRecursion (HasFront rows less) (element_parts elem ds)
 element_fronts rows less elem [] all = tt
 element_fronts rows less elem (d ∷ ds) all = (all.0, element_fronts rows less elem ds all.1)
 
@@ -154,7 +154,7 @@ module _ (block : List ℕ → Option (List ℕ)) (h : List ℕ → List ℕ) (r
     list_nodes : (vs : Values) → nodes h rows s (V.list vs) ≡ nodes_of_values h rows elem vs
     list_nodes vs = ap (λ o. option_map_or (λ u. nodes_of_values h rows u vs) (element_of o) []) is
 
-    list_up : (vs : List Value) → AreHeld block h rows less (element_parts elem ds) vs → IsHeld block h rows room s t (V.list (values_of vs))
+    list_up : (vs : List Value) → PartsHaveValues block h rows less (element_parts elem ds) vs → IsHeld block h rows room s t (V.list (values_of vs))
     list_up vs all =
         let d : TypeDef = D.List elem at in
         let x = values_up block h rows less elem ds vs all in
@@ -220,7 +220,7 @@ module _ (block : List ℕ → Option (List ℕ)) (h : List ℕ → List ℕ) (r
         let y = entries_of rows less key value x.items es x.fit.1 x.there in
         (keys_like form (pairs_list x.items) es y.same x.fit.0, y)
 
-    map_up : (vs : List Value) → AreHeld block h rows less (entry_parts value es) vs → IsHeld block h rows room s t (V.map (pairs_of (entry_values es vs)))
+    map_up : (vs : List Value) → PartsHaveValues block h rows less (entry_parts value es) vs → IsHeld block h rows room s t (V.map (pairs_of (entry_values es vs)))
     map_up vs all =
         let y = map_front in
         let x = pairs_up block h rows less key value es vs y.1.keys all in
@@ -275,7 +275,7 @@ module _ (block : List ℕ → Option (List ℕ)) (h : List ℕ → List ℕ) (r
     struct_front : Fields rows (Fits rows less) def.fields os
     struct_front = let x = structured alone front.shows.0 front.shows.1 front.shows.2 in data_of_fields rows (Fits rows less) def.fields x.items os x.fit x.there
 
-    struct_up : (vs : List Value) → AreHeld block h rows less (field_parts def.fields os) vs → IsHeld block h rows room s t (V.struct (optionals_of (field_values os vs)))
+    struct_up : (vs : List Value) → PartsHaveValues block h rows less (field_parts def.fields os) vs → IsHeld block h rows room s t (V.struct (optionals_of (field_values os vs)))
     struct_up vs all =
         let d : TypeDef = D.Struct def in
         let ws = field_values os vs in
@@ -327,7 +327,7 @@ module _ (block : List ℕ → Option (List ℕ)) (h : List ℕ → List ℕ) (r
     union_nodes : (w : Value) → nodes h rows s (V.union n w) ≡ nodes h rows (plainly m.ty) w
     union_nodes w = ap (λ o. option_map_or (λ u. nodes h rows u w) (member_of o n) []) is ∙ ap (λ o. option_map_or (λ u. nodes h rows u w) (option_map slot_of o) []) there
 
-    union_up : (vs : List Value) → AreHeld block h rows less ((plainly m.ty, c) ∷ []) vs → IsHeld block h rows room s t (union_of n vs)
+    union_up : (vs : List Value) → PartsHaveValues block h rows less ((plainly m.ty, c) ∷ []) vs → IsHeld block h rows room s t (union_of n vs)
     union_up [] all = absurd all
     union_up (w ∷ []) all =
         let d : TypeDef = D.Union def in

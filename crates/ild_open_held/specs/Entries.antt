@@ -20,15 +20,15 @@ use Rattle.ild_typed.specs.Fits.{Fits}
 use Rattle.ild_typed.specs.Hamt.{whole}
 use Rattle.ild_typed.specs.Known.{HeldNode, Kept}
 use Rattle.ild_typed.specs.Layer as L
-use Rattle.ild_typed.specs.Layers.{Shows}
+use Rattle.ild_typed.specs.Layers.{RepresentsSome}
 use Rattle.ild_typed.specs.Pieces.{is_null_there}
 use Rattle.ild_typed.specs.Schema.{IsSchema}
 use Rattle.ild_open_held.specs.Held.{IsHeld, IsHeldBlock}
-use Rattle.ild_open_held.specs.Splits.{AreHeld, entry_parts, entry_values, nodes_in}
+use Rattle.ild_open_held.specs.Splits.{PartsHaveValues, entry_parts, entry_values, nodes_in}
 
 -- the key is a text of its type, in the room
 abbrev pub KeyFits : List Row → ℕ → TypeNo → List ℕ × Data → Type 0
-KeyFits rows room key e = IsUtf8 e.0 × Shows (Fits rows room) rows (plainly key) (text e.0)
+KeyFits rows room key e = IsUtf8 e.0 × RepresentsSome (Fits rows room) rows (plainly key) (text e.0)
 
 -- the blocks of the nodes beneath the root
 abbrev pub beneath : (List ℕ → List ℕ) → HamtShape → List (List ℕ × Data) → List (List ℕ)
@@ -45,12 +45,12 @@ pub record IsMapOf (block : List ℕ → Option (List ℕ)) (h : List ℕ → Li
     (less : ℕ) (s : Slot) (key : TypeNo) (value : Slot) (fs : List (List ℕ × Data)) (v : Value) : Type 0 where
   pub keys : AllByRecursion (KeyFits rows less key) fs
   pub values : List Value
-  pub held : AreHeld block h rows less (entry_parts value fs) values
+  pub held : PartsHaveValues block h rows less (entry_parts value fs) values
   pub made : v ≡ map (pairs_of (entry_values fs values))
   pub many : length (nodes h rows s v) ≡ length (beneath h p fs) + nodes_in h rows (entry_parts value fs) values
 
 pub record HamtSplits (block : List ℕ → Option (List ℕ)) (h : List ℕ → List ℕ) (p : HamtShape) (rows : List Row) (room less : ℕ) (s : Slot) (t : Data) (key : TypeNo) (value : Slot) : Type 0 where
-  pub up : (fs : List (List ℕ × Data)) (vs : List Value) → IsRootOf block h p t fs → AllByRecursion (KeyFits rows less key) fs → AreHeld block h rows less (entry_parts value fs) vs
+  pub up : (fs : List (List ℕ × Data)) (vs : List Value) → IsRootOf block h p t fs → AllByRecursion (KeyFits rows less key) fs → PartsHaveValues block h rows less (entry_parts value fs) vs
       → IsHeld block h rows room s t (map (pairs_of (entry_values fs vs)))
   pub entries : (v : Value) → IsHeld block h rows room s t v → (fs : List (List ℕ × Data)) × IsRootOf block h p t fs
   pub back : (fs : List (List ℕ × Data)) (v : Value) → IsRootOf block h p t fs → IsHeld block h rows room s t v → IsMapOf block h p rows less s key value fs v

@@ -16,7 +16,7 @@ use Rattle.ild_typed.specs.Composed.{composed}
 use Rattle.ild_typed.specs.Fits.{Fits}
 use Rattle.ild_typed.specs.Hamt.{alone}
 use Rattle.ild_typed.specs.Layer as L
-use Rattle.ild_typed.specs.Layers.{Shows}
+use Rattle.ild_typed.specs.Layers.{RepresentsSome}
 use Rattle.ild_typed.specs.Levels.{map_levels, struct_levels}
 use Rattle.ild_typed.specs.Pieces.{is_null_there}
 use Rattle.ild_typed.specs.Schema.{IsSchema}
@@ -29,7 +29,7 @@ is_hamt form = false
 -- data of a slot with a front that fits in the room
 pub record IsFronted (rows : List Row) (room : ℕ) (s : Slot) (t : Data) : Type 0 where
   pub some : is_null_there s t ≡ false
-  pub shows : Shows (Fits rows room) rows s t
+  pub shows : RepresentsSome (Fits rows room) rows s t
 
 abbrev pub ListsSplit : Type 0
 ListsSplit =

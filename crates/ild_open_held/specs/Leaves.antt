@@ -15,7 +15,7 @@ use Rattle.ild_typed.specs.Fits.{Fits}
 use Rattle.ild_typed.specs.Hamt.{alone}
 use Rattle.ild_typed.specs.Layer as L
 use Rattle.ild_typed.specs.Layer.{Layer}
-use Rattle.ild_typed.specs.Layers.{Shows}
+use Rattle.ild_typed.specs.Layers.{RepresentsSome}
 use Rattle.ild_typed.specs.Pieces.{is_null_there}
 use Rattle.ild_typed.specs.Schema.{IsSchema}
 use Rattle.ild_open_held.specs.Held.{IsHeld}

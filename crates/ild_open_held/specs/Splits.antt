@@ -8,7 +8,7 @@ use Rattle.ild_schema.specs.declared.row.Row.{Row}
 use Rattle.ild_schema.specs.Value.{Value, null, union}
 use Rattle.ild_typed.specs.Blocks.{nodes}
 use Rattle.ild_typed.specs.Fits.{Fits}
-use Rattle.ild_typed.specs.Layers.{Shows}
+use Rattle.ild_typed.specs.Layers.{RepresentsSome}
 use Rattle.ild_open_held.specs.Held.{IsHeld}
 
 -- data in a slot
@@ -16,11 +16,11 @@ abbrev pub Part : Type 0
 Part = Slot × Data
 
 -- a value for each part
-abbrev pub AreHeld : (List ℕ → Option (List ℕ)) → (List ℕ → List ℕ) → List Row → ℕ → List Part → List Value → Type 0
-AreHeld block h rows room [] [] = Unit {0}
-AreHeld block h rows room [] (v ∷ vs) = ⊥
-AreHeld block h rows room (p ∷ ps) [] = ⊥
-AreHeld block h rows room (p ∷ ps) (v ∷ vs) = IsHeld block h rows room p.0 p.1 v × AreHeld block h rows room ps vs
+abbrev pub PartsHaveValues : (List ℕ → Option (List ℕ)) → (List ℕ → List ℕ) → List Row → ℕ → List Part → List Value → Type 0
+PartsHaveValues block h rows room [] [] = Unit {0}
+PartsHaveValues block h rows room [] (v ∷ vs) = ⊥
+PartsHaveValues block h rows room (p ∷ ps) [] = ⊥
+PartsHaveValues block h rows room (p ∷ ps) (v ∷ vs) = IsHeld block h rows room p.0 p.1 v × PartsHaveValues block h rows room ps vs
 
 -- how many nodes their HAMTs have
 abbrev pub nodes_in : (List ℕ → List ℕ) → List Row → List Part → List Value → ℕ
@@ -30,19 +30,19 @@ nodes_in h rows (p ∷ ps) (v ∷ vs) = length (nodes h rows p.0 v) + nodes_in h
 
 -- a front stands there that fits
 abbrev pub HasFront : List Row → ℕ → Part → Type 0
-HasFront rows room p = Shows (Fits rows room) rows p.0 p.1
+HasFront rows room p = RepresentsSome (Fits rows room) rows p.0 p.1
 
 -- the whole is made of values for its parts
 pub record IsMadeOf (block : List ℕ → Option (List ℕ)) (h : List ℕ → List ℕ) (rows : List Row) (less : ℕ) (s : Slot) (ps : List Part) (make : List Value → Value) (v : Value) : Type 0 where
   pub values : List Value
-  pub held : AreHeld block h rows less ps values
+  pub held : PartsHaveValues block h rows less ps values
   pub made : v ≡ make values
   pub many : length (nodes h rows s v) ≡ nodes_in h rows ps values
 
 -- what data of a slot split into: they represent a value exactly where their parts do, with less room
 pub record Splits (block : List ℕ → Option (List ℕ)) (h : List ℕ → List ℕ) (rows : List Row) (room : ℕ) (s : Slot) (t : Data) (less : ℕ) (ps : List Part) (make : List Value → Value) : Type 0 where
   pub fronts : AllByRecursion (HasFront rows less) ps
-  pub up : (vs : List Value) → AreHeld block h rows less ps vs → IsHeld block h rows room s t (make vs)
+  pub up : (vs : List Value) → PartsHaveValues block h rows less ps vs → IsHeld block h rows room s t (make vs)
   pub back : (v : Value) → IsHeld block h rows room s t v → IsMadeOf block h rows less s ps make v
 
 -- ---- the parts of each form

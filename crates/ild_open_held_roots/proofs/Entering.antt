@@ -17,7 +17,7 @@ use Rattle.ild_data.specs.declared.hamt_shape.HamtShape.{HamtShape}
 use Rattle.ild_edges.specs.Store.{block_at}
 use Rattle.ild_typed_fronts.proofs.Representing.{fronts_represent}
 use Rattle.ild_typed_fronts.specs.Front.{front, fronts_of_pairs, is_hamt, is_root, root_or_map}
-use Rattle.ild_open_held.specs.Splits.{AreHeld, entry_parts, entry_values}
+use Rattle.ild_open_held.specs.Splits.{PartsHaveValues, entry_parts, entry_values}
 use Rattle.ild_open_held.proofs.Hamts.{hamt_kept, hamt_parts}
 use Rattle.ild_schema.specs.declared.def.MapForm.TheVariants as MF
 use Rattle.ild_schema.specs.declared.def.TypeDef.{TypeDef}
@@ -125,7 +125,7 @@ found_alike k (e ∷ es) = by (same_text k e.0) (eq_by_cmp bytewise k e.0) refl 
   by false true is other rest = absurd (other_text k e.0 is (same_key k e.0 (sym other)))
 
 module _ (held : List (List ℕ)) (h : List ℕ → List ℕ) (rows : List Row) (less room : ℕ) (le : less ≤ room) (slot : Slot) where
-  values_found : (es : List (List ℕ × Data)) (vs : List Value) (k : List ℕ) → AreHeld (block_at held) h rows less (entry_parts slot es) vs → DataOf held h rows room slot (value_at k es) (value_at k (entry_values es vs))
+  values_found : (es : List (List ℕ × Data)) (vs : List Value) (k : List ℕ) → PartsHaveValues (block_at held) h rows less (entry_parts slot es) vs → DataOf held h rows room slot (value_at k es) (value_at k (entry_values es vs))
   values_found [] [] k all = tt
   values_found [] (v ∷ vs) k all = absurd all
   values_found (e ∷ es) [] k all = absurd all

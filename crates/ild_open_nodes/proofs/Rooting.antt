@@ -21,7 +21,7 @@ use Rattle.ild_typed.specs.Node.{IsRoot}
 use Rattle.ild_bulk_walker.specs.Gives.{RootGives}
 use Rattle.ild_bulk_walker.specs.Reads.{NodesBeneath}
 use Rattle.ild_open_held.specs.Entries.{KeyFits}
-use Rattle.ild_open_held.specs.Splits.{AreHeld, entry_parts, nodes_in}
+use Rattle.ild_open_held.specs.Splits.{PartsHaveValues, entry_parts, nodes_in}
 use Rattle.ild_open_parts.specs.Broken.{HasBrokenBlock}
 use Rattle.ild_open_parts.specs.Reads.{BrokenPart}
 use Rattle.ild_open_nodes.specs.inside.Beneath.{BrokenIn, BrokenOn, site}
@@ -32,7 +32,7 @@ use Rattle.ild_open_nodes.proofs.Splitting.{EntryAsks, Joined, joined, splits}
 module _ (h : List ℕ → List ℕ) (p : HamtShape) (rows : List Row) (room : ℕ) (key : TypeNo) (u : Slot) (slots : List TrieSlot) where
   module _ (held : List (List ℕ)) where
     -- what the entries ask for
-    root_asks : IsSafe rows u → (es : List (List ℕ × Data)) (vs : List Value) (i : ℕ) → AllByRecursion (KeyFits rows room key) es → AreHeld (block_at held) h rows room (entry_parts u es) vs
+    root_asks : IsSafe rows u → (es : List (List ℕ × Data)) (vs : List Value) (i : ℕ) → AllByRecursion (KeyFits rows room key) es → PartsHaveValues (block_at held) h rows room (entry_parts u es) vs
         → SumsTo (λ j. EntryAsks h p rows room key u held []) i es (nodes_in h rows (entry_parts u es) vs)
     root_asks safe [] vs i keys are = tt
     root_asks safe (e ∷ es) [] i keys are = absurd are
@@ -44,7 +44,7 @@ module _ (h : List ℕ → List ℕ) (p : HamtShape) (rows : List Row) (room : �
       root_asks safe es vs (i + 1) keys.1 are.1,
     )
 
-    pub root_splits : IsSafe rows u → (es : List (List ℕ × Data)) (vs : List Value) (many : ℕ) → RootGives h p held (trie_levels p - 1) slots es → AllByRecursion (KeyFits rows room key) es → AreHeld (block_at held) h rows room (entry_parts u es) vs
+    pub root_splits : IsSafe rows u → (es : List (List ℕ × Data)) (vs : List Value) (many : ℕ) → RootGives h p held (trie_levels p - 1) slots es → AllByRecursion (KeyFits rows room key) es → PartsHaveValues (block_at held) h rows room (entry_parts u es) vs
         → NodesBeneath p held slots many → SumsTo (SlotGiven h p rows room key u held []) 0 slots (many + nodes_in h rows (entry_parts u es) vs)
     root_splits safe es vs many gives keys are beneath = splits h p rows room key u held [] 0 slots es (nodes_in h rows (entry_parts u es) vs) many gives (root_asks safe es vs 0 keys are) beneath
 

@@ -19,7 +19,7 @@ use Rattle.ild_schema.specs.declared.number.Slot.{Slot}
 use Rattle.ild_schema.specs.declared.number.TypeNo.{TypeNo}
 use Rattle.ild_schema.specs.declared.row.Row.{Row}
 use Rattle.ild_typed.specs.Fits.{Fits}
-use Rattle.ild_typed.specs.Layers.{Shows}
+use Rattle.ild_typed.specs.Layers.{RepresentsSome}
 use Rattle.ild_bulk_walker.specs.Gives.{IsNodeOf}
 use Rattle.ild_open_parts.specs.Broken.{IsWrongPart}
 use Rattle.ild_open_parts.specs.declared.fault.OpenFault.{OpenFault}
@@ -55,8 +55,8 @@ ReadsNode p b (Err (B.Shape why)) = (why ≡ W.Trie) × (((slots : List TrieSlot
 
 -- the key of an entry and its value fit, or one of them is refused
 pub record EntryShows (rows : List Row) (room : ℕ) (ty : TypeNo) (s : Slot) (k : List ℕ) (t : Data) : Type 0 where
-  pub key : Shows (Fits rows room) rows (plainly ty) (text k)
-  pub value : Shows (Fits rows room) rows s t
+  pub key : RepresentsSome (Fits rows room) rows (plainly ty) (text k)
+  pub value : RepresentsSome (Fits rows room) rows s t
 
 pub record IsWrongItem (rows : List Row) (room : ℕ) (ty : TypeNo) (s : Slot) (k : List ℕ) (t : Data) (why : BlockWhy) : Type 0 where
   pub cause : Why

@@ -1,7 +1,7 @@
 //! What is wrong with an entry in a bucket.
 ghost use Rattle.std.specs.Prelude.{◌≡◌, ◌<◌, length};
 ghost use Rattle.ild_data.specs.Data.{Data};
-ghost use Rattle.ild_cbor.specs.Nodes.{Stands};
+ghost use Rattle.ild_cbor.specs.Nodes.{HasData};
 ghost use Rattle.ild_cbor.specs.declared.why.BlockWhy.TheVariants as B;
 ghost use Rattle.ild_cbor.specs.declared.why.Why.TheVariants as W;
 ghost use Rattle.ild_open_parts.specs.Hamts.{part_fault};
@@ -51,7 +51,7 @@ pub fn entry_fits(
 ) -> Result<(), OpenFault>
     requires keyed { ty.0 < length acc.now }
     requires within { slot.ty.0 < length acc.now }
-    ensures { (t : Data) → Stands item.entry t → EntryChecks acc.now room ty slot key.now t at result }
+    ensures { (t : Data) → HasData item.entry t → EntryChecks acc.now room ty slot key.now t at result }
 {
     if let Err(fault) = check_key(alloc, acc, ty, key, room) {
         return Err(part_fault(at, fault));

@@ -2,7 +2,7 @@
 use Rattle.std.proofs.Common.{◌≡◌, ℕ, List, Option, Some, None, true, refl, sym, ◌∙◌, ap, subst}
 use Rattle.std.specs.Prelude.{option_and_then, slice_get}
 use Rattle.std.proofs.lemmas.Option.{same_Some}
-use Rattle.ild_cbor.specs.Nodes.{Stands}
+use Rattle.ild_cbor.specs.Nodes.{HasData}
 use Rattle.ild_cbor.specs.declared.node.Node.{Node}
 use Rattle.ild_cbor.specs.declared.piece.Piece.{Piece}
 use Rattle.ild_data.specs.Data.{Data}
@@ -17,7 +17,7 @@ use Rattle.ild_schema.specs.declared.def.TypeDef.TheVariants as D
 use Rattle.ild_schema.specs.declared.def.UnionDef.{UnionDef}
 use Rattle.ild_schema.specs.declared.number.TypeNo.{TypeNo}
 use Rattle.ild_schema.specs.declared.row.Row.{Row}
-use Rattle.ild_struct.specs.Parts.{HasParts, IsFieldOf, IsPart}
+use Rattle.ild_struct.specs.Parts.{HasParts, IsFieldOf, IsFieldPart}
 use Rattle.ild_struct.specs.declared.parts.StructParts.{StructParts}
 use Rattle.ild_struct.specs.declared.part.Part.{Part}
 use Rattle.ild_struct.specs.declared.part.Part.TheVariants as P
@@ -29,27 +29,27 @@ use Rattle.ild_typed.specs.Schema.{IsSchema}
 use Rattle.ild_open_parts.proofs.Forming.{IsSameMember, one_member, one_struct}
 
 module _ (rows : List Row) (f : Field) where
-  pub absent_part : (o : Option Data) (part : Part) → part ≡ P.Absent → IsPart rows f o part → o ≡ None
-  absent_part o part is h = by o (subst (IsPart rows f o) is h) where
-    by : (q : Option Data) → IsPart rows f q P.Absent → q ≡ None
+  pub absent_part : (o : Option Data) (part : Part) → part ≡ P.Absent → IsFieldPart rows f o part → o ≡ None
+  absent_part o part is h = by o (subst (IsFieldPart rows f o) is h) where
+    by : (q : Option Data) → IsFieldPart rows f q P.Absent → q ≡ None
     by None k = refl
     by (Some d) k = absurd k
 
-  pub implicit_part : (o : Option Data) (part : Part) → part ≡ P.Implicit → IsPart rows f o part → (d : Data) × (o ≡ Some d) × (is_implicit f.implicit d ≡ true)
-  implicit_part o part is h = by o (subst (IsPart rows f o) is h) where
-    by : (q : Option Data) → IsPart rows f q P.Implicit → (d : Data) × (q ≡ Some d) × (is_implicit f.implicit d ≡ true)
+  pub implicit_part : (o : Option Data) (part : Part) → part ≡ P.Implicit → IsFieldPart rows f o part → (d : Data) × (o ≡ Some d) × (is_implicit f.implicit d ≡ true)
+  implicit_part o part is h = by o (subst (IsFieldPart rows f o) is h) where
+    by : (q : Option Data) → IsFieldPart rows f q P.Implicit → (d : Data) × (q ≡ Some d) × (is_implicit f.implicit d ≡ true)
     by None k = absurd k
     by (Some d) k = (d, refl, k)
 
-  pub null_part : (o : Option Data) (part : Part) (n : Node) → part ≡ P.Null n → IsPart rows f o part → (d : Data) × (o ≡ Some d) × Stands n d
-  null_part o part n is h = by o (subst (IsPart rows f o) is h) where
-    by : (q : Option Data) → IsPart rows f q (P.Null n) → (d : Data) × (q ≡ Some d) × Stands n d
+  pub null_part : (o : Option Data) (part : Part) (n : Node) → part ≡ P.Null n → IsFieldPart rows f o part → (d : Data) × (o ≡ Some d) × HasData n d
+  null_part o part n is h = by o (subst (IsFieldPart rows f o) is h) where
+    by : (q : Option Data) → IsFieldPart rows f q (P.Null n) → (d : Data) × (q ≡ Some d) × HasData n d
     by None k = absurd k
     by (Some d) k = (d, refl, k.0)
 
-  pub held_part : (o : Option Data) (part : Part) (p : Piece) → part ≡ P.Held p → IsPart rows f o part → (d : Data) × (o ≡ Some d) × StandsFor rows p d
-  held_part o part p is h = by o (subst (IsPart rows f o) is h) where
-    by : (q : Option Data) → IsPart rows f q (P.Held p) → (d : Data) × (q ≡ Some d) × StandsFor rows p d
+  pub held_part : (o : Option Data) (part : Part) (p : Piece) → part ≡ P.Held p → IsFieldPart rows f o part → (d : Data) × (o ≡ Some d) × StandsFor rows p d
+  held_part o part p is h = by o (subst (IsFieldPart rows f o) is h) where
+    by : (q : Option Data) → IsFieldPart rows f q (P.Held p) → (d : Data) × (q ≡ Some d) × StandsFor rows p d
     by None k = absurd k
     by (Some d) k = (d, refl, k.0)
 
@@ -57,7 +57,7 @@ module _ (rows : List Row) (f : Field) where
 pub record FieldAt (rows : List Row) (f : Field) (os : List (Option Data)) (i : ℕ) (part : Part) : Type 0 where
   pub held : Option Data
   pub at : slice_get os i ≡ Some held
-  pub is : IsPart rows f held part
+  pub is : IsFieldPart rows f held part
 
 pub field_at : (rows : List Row) (gs fs : List Field) (os ps : List (Option Data)) (i : ℕ) (f : Field) (part : Part) → gs ≡ fs → os ≡ ps → slice_get fs i ≡ Some f → IsFieldOf rows gs os i part → FieldAt rows f ps i part
 field_at rows gs fs os ps i f part same one known x =
@@ -65,7 +65,7 @@ field_at rows gs fs os ps i f part same one known x =
     record {
       held = x.held;
       at = ap (λ (qs : List (Option Data)). slice_get qs i) (sym one) ∙ x.at;
-      is = subst (λ (g : Field). IsPart rows g x.held part) (sym (same_Some f x.field there)) x.is;
+      is = subst (λ (g : Field). IsFieldPart rows g x.held part) (sym (same_Some f x.field there)) x.is;
     }
 
 -- the parts that were found are those of the data

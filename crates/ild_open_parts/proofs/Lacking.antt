@@ -12,7 +12,7 @@ use Rattle.ild_schema.specs.declared.def.Field.{Field}
 use Rattle.ild_schema.specs.declared.number.Slot.{Slot}
 use Rattle.ild_schema.specs.declared.row.Row.{Row}
 use Rattle.ild_schema.specs.declared.val.Val.{Val}
-use Rattle.ild_struct.specs.Parts.{IsPart}
+use Rattle.ild_struct.specs.Parts.{IsFieldPart}
 use Rattle.ild_struct.specs.declared.part.Part.{Part}
 use Rattle.ild_struct.specs.declared.part.Part.TheVariants as P
 use Rattle.ild_union.specs.Forms.{passes_over}
@@ -57,7 +57,7 @@ abbrev pub is_absent : Part → Bool
 is_absent P.Absent = true
 is_absent part = false
 
-some_there : (rows : List Row) (f : Field) (o : Option Data) (part : Part) → is_absent part ≡ false → IsPart rows f o part → (d : Data) × (o ≡ Some d)
+some_there : (rows : List Row) (f : Field) (o : Option Data) (part : Part) → is_absent part ≡ false → IsFieldPart rows f o part → (d : Data) × (o ≡ Some d)
 some_there rows f (Some d) part there h = (d, refl)
 some_there rows f None P.Absent there h = absurd cc
 some_there rows f None P.Implicit there h = absurd h

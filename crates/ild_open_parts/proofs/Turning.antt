@@ -12,7 +12,7 @@ use Rattle.ild_schema.specs.declared.row.Row.{Row}
 use Rattle.ild_schema.specs.declared.val.Val.{Val}
 use Rattle.ild_typed.specs.Blocks.{nodes}
 use Rattle.ild_open_held.specs.Held.{IsHeld}
-use Rattle.ild_open_held.specs.Splits.{AreHeld, HasFront, Part, Splits, nodes_in, union_of}
+use Rattle.ild_open_held.specs.Splits.{PartsHaveValues, HasFront, Part, Splits, nodes_in, union_of}
 use Rattle.ild_open_parts.specs.Leaf.{IsUnionWith}
 use Rattle.ild_open_parts.specs.Reads.{BrokenPart, BrokenParts, HasRead, HasValue, HasValues, NoValue, NoValues, OnlyReads, PartsAnswer, ReadAnswer, Reads, ReadsParts, Stops}
 use Rattle.ild_open_parts.specs.declared.fault.OpenFault.{OpenFault}
@@ -35,7 +35,7 @@ stops_later P Q B C m n o F.Memory only more broken x = tt
 module _ (h : List ℕ → List ℕ) (rows : List Row) (room : ℕ) where
   module _ (block : List ℕ → Option (List ℕ)) where
     abbrev Are : List Part → List Value → Type 0
-    Are ps vs = AreHeld block h rows room ps vs
+    Are ps vs = PartsHaveValues block h rows room ps vs
 
     pub are_append : (ps : List Part) (vs : List Value) (p : Part) (v : Value) → Are ps vs → IsHeld block h rows room p.0 p.1 v → Are (ps ++ p ∷ []) (vs ++ v ∷ [])
     are_append [] [] p v all one = (one, tt)

@@ -1,6 +1,6 @@
 -- Pieces that were checked against a slot or a type: they stand for data that have what is asked for there.
 use Rattle.std.specs.Prelude.{◌≡◌, ℕ, ◌+◌, Bool, true, false, List, Option, Some}
-use Rattle.ild_cbor.specs.Nodes.{Stands}
+use Rattle.ild_cbor.specs.Nodes.{HasData}
 use Rattle.ild_cbor.specs.declared.node.Node.{Node}
 use Rattle.ild_cbor.specs.declared.piece.Piece.{Piece}
 use Rattle.ild_data.specs.Data.{Data}
@@ -12,7 +12,7 @@ use Rattle.ild_schema.specs.declared.def.Field.{Field}
 use Rattle.ild_schema.specs.declared.def.TypeDef.{TypeDef}
 use Rattle.ild_schema.specs.declared.number.Slot.{Slot}
 use Rattle.ild_schema.specs.declared.row.Row.{Row}
-use Rattle.ild_struct.specs.Parts.{IsPart}
+use Rattle.ild_struct.specs.Parts.{IsFieldPart}
 use Rattle.ild_struct.specs.declared.part.Part.{Part}
 use Rattle.ild_struct.specs.declared.part.Part.TheVariants as P
 use Rattle.ild_typed.specs.Composed.{composed}
@@ -49,7 +49,7 @@ pub record IsLayered (rows : List Row) (d : TypeDef) (piece : Piece) : Type 0 wh
 -- the root of a HAMT
 pub record IsHamtRoot (p : HamtShape) (root : Node) : Type 0 where
   pub tree : Data
-  pub stands : Stands root tree
+  pub stands : HasData root tree
   pub slots : List TrieSlot
   pub is : IsRoot p slots tree
 
@@ -57,7 +57,7 @@ pub record IsHamtRoot (p : HamtShape) (root : Node) : Type 0 where
 pub record IsHandedOut (field : Field) (part : Part) : Type 0 where
   pub rows : List Row
   pub tree : Option Data
-  pub is : IsPart rows field tree part
+  pub is : IsFieldPart rows field tree part
 
 -- no piece stands for the field
 abbrev pub is_out : Part → Bool

@@ -3,7 +3,7 @@ use Rattle.std.specs.Prelude.{◌≡◌, ◌⊎◌, ℕ, ◌+◌, ◌≤◌, Boo
 use Rattle.std.specs.Global.{Vec}
 use Rattle.std.specs.List.{All, AllByRecursion}
 use Rattle.ild_cbor.specs.Block.{IsBlockOf}
-use Rattle.ild_cbor.specs.Nodes.{Stands}
+use Rattle.ild_cbor.specs.Nodes.{HasData}
 use Rattle.ild_cbor.specs.declared.node.Node.{Node}
 use Rattle.ild_cbor.specs.declared.piece.Piece.{Piece}
 use Rattle.ild_cbor.specs.declared.why.BlockWhy.{BlockWhy}
@@ -39,7 +39,7 @@ use Rattle.ild_view_walk.specs.declared.fault.ViewErr.{ViewErr}
 use Rattle.ild_view_walk.specs.declared.fault.ViewErr.TheVariants as E
 use Rattle.ild_open_held.specs.Entries.{IsRootOf, KeyFits, beneath}
 use Rattle.ild_open_held.specs.Laws.{IsFronted}
-use Rattle.ild_open_held.specs.Splits.{AreHeld, HasFront, entry_parts, entry_values, nodes_in}
+use Rattle.ild_open_held.specs.Splits.{PartsHaveValues, HasFront, entry_parts, entry_values, nodes_in}
 use Rattle.ild_open_rows.specs.Rooted.{AreRows}
 use Rattle.ild_open_parts.specs.Broken.{IsWrongPart}
 use Rattle.ild_open_parts.specs.Reads.{BrokenPart, FromBlocks, HasValues, NoValues, OnlyReads, Reads, Stops}
@@ -96,7 +96,7 @@ module _ (rows : List Row) (room : ℕ) (key : TypeNo) (value : Slot) (row : Lis
   pub record IsItemOf (item : Node) : Type 0 where
     pub tree : Data
     pub spelled : IsBlockOf row.value tree
-    pub stands : Stands item tree
+    pub stands : HasData item tree
     pub keyed : KeyFits rows room key (row.key, tree)
     pub front : HasFront rows room (value, tree)
 
@@ -158,7 +158,7 @@ module _ (h : List ℕ → List ℕ) (rows : List Row) (room : ℕ) (keep : Bool
   pub record ReadsRows (m : Moment) (result : Result Val OpenFault) (n : Moment) : Type 0 where
     pub answer : EntriesAnswer m result n
     pub only : OnlyReads m n
-    pub gets : (es : List (List ℕ × Data)) → AreSpelled es listed → (held : List (List ℕ)) (vs : List Value) → m.blocks ≡ Some held → AreHeld (block_at held) h rows room (entry_parts u es) vs
+    pub gets : (es : List (List ℕ × Data)) → AreSpelled es listed → (held : List (List ℕ)) (vs : List Value) → m.blocks ≡ Some held → PartsHaveValues (block_at held) h rows room (entry_parts u es) vs
         → n.gets ≤ m.gets + nodes_in h rows (entry_parts u es) vs
 
 -- where null isn't among the values that may be null otherwise

@@ -10,7 +10,7 @@ use Rattle.ild_schema.specs.declared.row.Row.{Row}
 use Rattle.ild_schema.specs.declared.val.Val.{Val}
 use Rattle.ild_typed.specs.Blocks.{nodes}
 use Rattle.ild_open_held.specs.Held.{IsHeld}
-use Rattle.ild_open_held.specs.Splits.{AreHeld, Part, nodes_in}
+use Rattle.ild_open_held.specs.Splits.{PartsHaveValues, Part, nodes_in}
 use Rattle.ild_open_parts.specs.Broken.{HasBrokenBlock}
 use Rattle.ild_open_parts.specs.declared.fault.OpenFault.{OpenFault}
 use Rattle.ild_open_parts.specs.declared.fault.OpenFault.TheVariants as F
@@ -50,17 +50,17 @@ pub record Reads (h : List ℕ → List ℕ) (at : List ℕ) (rows : List Row) (
 -- values for them; of those that are to be kept, what is said
 pub record HasValues (h : List ℕ → List ℕ) (rows : List Row) (room : ℕ) (ps : List Part) (keep : Bool) (held : List (List ℕ)) (Kept : List Value → Type 0) : Type 0 where
   pub values : List Value
-  pub are : AreHeld (block_at held) h rows room ps values
+  pub are : PartsHaveValues (block_at held) h rows room ps values
   pub kept : keep ≡ true → Kept values
 
 -- so far these parts were read
 pub record HasRead (h : List ℕ → List ℕ) (rows : List Row) (room : ℕ) (ps : List Part) (keep : Bool) (Kept : List Value → Type 0) (m n : Moment) : Type 0 where
   pub found : FromBlocks n (λ held. HasValues h rows room ps keep held Kept)
   pub only : OnlyReads m n
-  pub gets : (held : List (List ℕ)) (vs : List Value) → m.blocks ≡ Some held → AreHeld (block_at held) h rows room ps vs → n.gets ≤ m.gets + nodes_in h rows ps vs
+  pub gets : (held : List (List ℕ)) (vs : List Value) → m.blocks ≡ Some held → PartsHaveValues (block_at held) h rows room ps vs → n.gets ≤ m.gets + nodes_in h rows ps vs
 
 abbrev pub NoValues : (List ℕ → List ℕ) → List Row → ℕ → List Part → Moment → Type 0
-NoValues h rows room ps m = (held : List (List ℕ)) (vs : List Value) → m.blocks ≡ Some held → AreHeld (block_at held) h rows room ps vs → ⊥
+NoValues h rows room ps m = (held : List (List ℕ)) (vs : List Value) → m.blocks ≡ Some held → PartsHaveValues (block_at held) h rows room ps vs → ⊥
 
 -- something is wrong in the data of one of them
 abbrev pub BrokenParts : (List ℕ → List ℕ) → List ℕ → List Row → ℕ → List Part → Moment → Moment → List ℕ → BlockWhy → Type 0
@@ -75,4 +75,4 @@ pub record ReadsParts (h : List ℕ → List ℕ) (at : List ℕ) (rows : List R
     (make : List Value → Value) (m : Moment) (result : Result Val OpenFault) (n : Moment) : Type 0 where
   pub answer : PartsAnswer h at rows room ps keep make m result n
   pub only : OnlyReads m n
-  pub gets : (held : List (List ℕ)) (vs : List Value) → m.blocks ≡ Some held → AreHeld (block_at held) h rows room ps vs → n.gets ≤ m.gets + nodes_in h rows ps vs
+  pub gets : (held : List (List ℕ)) (vs : List Value) → m.blocks ≡ Some held → PartsHaveValues (block_at held) h rows room ps vs → n.gets ≤ m.gets + nodes_in h rows ps vs

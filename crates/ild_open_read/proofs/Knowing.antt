@@ -7,7 +7,7 @@ use Rattle.std.proofs.lemmas.List.{length-append}
 use Rattle.std.specs.Prelude.{Contains, Result, Ok}
 use Rattle.std.specs.Global.{Vec}
 use Rattle.ild_bulk_walker.specs.declared.row.Row.{Row as Listed}
-use Rattle.ild_cbor.specs.Nodes.{Stands}
+use Rattle.ild_cbor.specs.Nodes.{HasData}
 use Rattle.ild_cbor.specs.declared.node.Node.{Node}
 use Rattle.ild_cbor.specs.declared.piece.Piece.{Piece}
 use Rattle.ild_cbor.specs.declared.piece.Piece.TheVariants as P
@@ -57,7 +57,7 @@ cut block before piece after from to is place end =
     is ∙ ap₂ (λ (xs ys : List ℕ). xs ++ (piece ++ ys)) (sym front) (sym back)
 
 -- data with the bytes of a node stand there
-pub stands_again : (n : Node) (b : List ℕ) → ((t : Data) → Stands n t → b ≡ spell t) → (t : Data) → spell t ≡ b → IsWithin t → Stands n t
+pub stands_again : (n : Node) (b : List ℕ) → ((t : Data) → HasData n t → b ≡ spell t) → (t : Data) → spell t ≡ b → IsWithin t → HasData n t
 stands_again n b tells t same within = record {
   holds = record {
     before = take n.from n.block.now;
@@ -150,7 +150,7 @@ module _ (h : List ℕ → List ℕ) (rows : List Row) (kind : ReadAs) (root : N
   passed at keep known m piece is sound x = subst (Whole at keep m (Ok W.Null) m) (sym is) (passed_node at keep known m sound x)
 
   -- one that was read is sound
-  found : (at : List ℕ) (keep : Bool) (m n : Moment) (val : Val) (b : List ℕ) → ((t : Data) → Stands root t → b ≡ spell t) → ReadsRoot h kind.shape at rows kind.room keep kind.key kind.value (P.Node root) m (Ok val) n
+  found : (at : List ℕ) (keep : Bool) (m n : Moment) (val : Val) (b : List ℕ) → ((t : Data) → HasData root t → b ≡ spell t) → ReadsRoot h kind.shape at rows kind.room keep kind.key kind.value (P.Node root) m (Ok val) n
       → IsSound h rows n (kind, b)
   found at keep m n val b tells read = record {
     holds = λ s t key_at place whole within same is least le some.

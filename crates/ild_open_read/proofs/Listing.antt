@@ -2,7 +2,7 @@
 use Rattle.std.proofs.Common.{◌≡◌, ℕ, List, [], ◌∷◌, ◌++◌, Bool, true, Option, Some, None, refl, sym, ◌∙◌, ap, subst, append_assoc, append-nil}
 use Rattle.std.specs.Prelude.{Ok, Err}
 use Rattle.std.specs.List.{AllByRecursion}
-use Rattle.ild_cbor.specs.Nodes.{Stands}
+use Rattle.ild_cbor.specs.Nodes.{HasData}
 use Rattle.ild_cbor.specs.Steps.{HasItems, ItemStep}
 use Rattle.ild_cbor.specs.declared.items.Items.{Items}
 use Rattle.ild_cbor.specs.declared.node.Node.{Node}
@@ -65,7 +65,7 @@ module _ (h : List ℕ → List ℕ) (at : List ℕ) (rows : List Row) (room : �
     pub first : Data
     pub others : List Data
     pub is : rest ≡ first ∷ others
-    pub stands : Stands item first
+    pub stands : HasData item first
     pub left : HasItems after (T.items_of others)
 
   next_item : (rest : List Data) (left after : Items) (item : Node) → Give left (Some item) after → HasItems left (T.items_of rest) → NextItem rest item after
@@ -89,7 +89,7 @@ module _ (h : List ℕ → List ℕ) (at : List ℕ) (rows : List Row) (room : �
   step_parts done others d = parts_more u done (d ∷ others)
 
   pub listing_goes : (ds : List Data) (left after : Items) (vals more : Values) (m n o : Moment) (item : Node) (val : Val) → Listing ds left vals m n → Give left (Some item) after
-      → ((d : Data) → Stands item d → HasFront rows room (u, d) → Reads h at rows room (u, d) keep n (Ok val) o) → (keep ≡ true → values_list more ≡ values_list vals ++ value_of val ∷ []) → Listing ds after more m o
+      → ((d : Data) → HasData item d → HasFront rows room (u, d) → Reads h at rows room (u, d) keep n (Ok val) o) → (keep ≡ true → values_list more ≡ values_list vals ++ value_of val ∷ []) → Listing ds after more m o
   listing_goes ds left after vals more m n o item val x give read added =
       let y = next_item x.rest left after item give x.items in
       let fronts = subst (λ r. AllByRecursion (HasFront rows room) (element_parts u r)) y.is x.fronts in
@@ -104,7 +104,7 @@ module _ (h : List ℕ → List ℕ) (at : List ℕ) (rows : List Row) (room : �
       }
 
   pub listing_stops : (ds : List Data) (left after : Items) (vals : Values) (m n o : Moment) (item : Node) (e : OpenFault) → Listing ds left vals m n → Give left (Some item) after
-      → ((d : Data) → Stands item d → HasFront rows room (u, d) → Reads h at rows room (u, d) keep n (Err e) o) → ReadsParts h at rows room (element_parts u ds) keep Make m (Err e) o
+      → ((d : Data) → HasData item d → HasFront rows room (u, d) → Reads h at rows room (u, d) keep n (Err e) o) → ReadsParts h at rows room (element_parts u ds) keep Make m (Err e) o
   listing_stops ds left after vals m n o item e x give read =
       let y = next_item x.rest left after item give x.items in
       let fronts = subst (λ r. AllByRecursion (HasFront rows room) (element_parts u r)) y.is x.fronts in
@@ -119,7 +119,7 @@ module _ (h : List ℕ → List ℕ) (at : List ℕ) (rows : List Row) (room : �
 
   -- the element was read, and there is no room for it
   pub listing_wants : (ds : List Data) (left after : Items) (vals : Values) (m n o : Moment) (item : Node) (val : Val) → Listing ds left vals m n → Give left (Some item) after
-      → ((d : Data) → Stands item d → HasFront rows room (u, d) → Reads h at rows room (u, d) keep n (Ok val) o) → ReadsParts h at rows room (element_parts u ds) keep Make m (Err F.Memory) o
+      → ((d : Data) → HasData item d → HasFront rows room (u, d) → Reads h at rows room (u, d) keep n (Ok val) o) → ReadsParts h at rows room (element_parts u ds) keep Make m (Err F.Memory) o
   listing_wants ds left after vals m n o item val x give read =
       let y = next_item x.rest left after item give x.items in
       let fronts = subst (λ r. AllByRecursion (HasFront rows room) (element_parts u r)) y.is x.fronts in

@@ -3,7 +3,7 @@ use Rattle.std.proofs.Common.{◌≡◌, ℕ, suc, ◌+◌, ◌<◌, ◌≤◌, 
 use Rattle.std.specs.Prelude.{Result, Ok, Err, slice_get}
 use Rattle.std.specs.Borrow.{Bor}
 use Rattle.std.proofs.lemmas.Option.{none-some, same_Some}
-use Rattle.ild_cbor.specs.Nodes.{Stands}
+use Rattle.ild_cbor.specs.Nodes.{HasData}
 use Rattle.ild_cbor.specs.declared.node.Node.{Node}
 use Rattle.ild_cbor.specs.declared.why.BlockWhy.{BlockWhy}
 use Rattle.ild_data.specs.Bytes.{AreBytes}
@@ -39,7 +39,7 @@ pub record ReadsEntry (es : List (List ℕ × Data)) (j : ℕ) (r : Bor (List �
   pub is : slice_get es j ≡ Some entry
   pub key : r.0.now ≡ entry.0
   pub text : IsUtf8 entry.0
-  pub stands : Stands r.1 entry.1
+  pub stands : HasData r.1 entry.1
 
 pub reads_entry : (b : Bucket) (es : List (List ℕ × Data)) (j : ℕ) (r : Bor (List ℕ) × Node) → HasEntries b es → EntryIs b es j (slice_get es j) (Some r) → ReadsEntry es j r
 reads_entry b es j r has x = by (slice_get es j) refl x where

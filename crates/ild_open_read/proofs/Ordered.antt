@@ -35,7 +35,7 @@ use Rattle.ild_bulk_walker.specs.Gives.{RootGives}
 use Rattle.ild_bulk_walker.proofs.Tried.{given-is-trie}
 use Rattle.ild_open_held.specs.Entries.{IsRootOf}
 use Rattle.ild_open_held.specs.Held.{IsHeld}
-use Rattle.ild_open_held.specs.Splits.{AreHeld, entry_parts, nodes_in}
+use Rattle.ild_open_held.specs.Splits.{PartsHaveValues, entry_parts, nodes_in}
 use Rattle.ild_open_held.proofs.Permuted.{lifted}
 use Rattle.ild_open_held.proofs.Trieing.{root_of_trie}
 use Rattle.ild_open_rows.proofs.Rooting.{holds_known}
@@ -116,7 +116,7 @@ module _ (block : List ℕ → Option (List ℕ)) (h : List ℕ → List ℕ) (r
     own : AllByRecursion IsOwn pairs
     many : sum_by many_of pairs ≡ nodes_in h rows (entry_parts u es) vs
 
-  zipped : (es : List (List ℕ × Data)) (vs : List Value) → AreHeld block h rows room (entry_parts u es) vs → Zipped es vs
+  zipped : (es : List (List ℕ × Data)) (vs : List Value) → PartsHaveValues block h rows room (entry_parts u es) vs → Zipped es vs
   zipped [] [] all = record { pairs = []; are = refl; own = tt; many = refl }
   zipped [] (v ∷ vs) all = absurd all
   zipped (e ∷ es) [] all = absurd all
@@ -125,7 +125,7 @@ module _ (block : List ℕ → Option (List ℕ)) (h : List ℕ → List ℕ) (r
       let q : Valued = record { entry = e; value = v } in
       record { pairs = q ∷ r.pairs; are = ap (λ xs. e ∷ xs) r.are; own = (all.0, r.own); many = sum_by-cons many_of q r.pairs ∙ ap (λ n. length (nodes h rows u v) + n) r.many }
 
-  unzipped : (qs : List Valued) → AllByRecursion IsOwn qs → AreHeld block h rows room (entry_parts u (entries_in qs)) (values_in qs)
+  unzipped : (qs : List Valued) → AllByRecursion IsOwn qs → PartsHaveValues block h rows room (entry_parts u (entries_in qs)) (values_in qs)
   unzipped [] all = tt
   unzipped (q ∷ qs) all = (all.0, unzipped qs all.1)
 
@@ -136,16 +136,16 @@ module _ (block : List ℕ → Option (List ℕ)) (h : List ℕ → List ℕ) (r
   -- as many nodes
   pub record AreMoved (es fs : List (List ℕ × Data)) (vs : List Value) : Type 0 where
     pub values : List Value
-    pub are : AreHeld block h rows room (entry_parts u fs) values
+    pub are : PartsHaveValues block h rows room (entry_parts u fs) values
     pub many : nodes_in h rows (entry_parts u fs) values ≡ nodes_in h rows (entry_parts u es) vs
 
-  pub values_moved : (es fs : List (List ℕ × Data)) (vs : List Value) → IsPermutation es fs → AreHeld block h rows room (entry_parts u es) vs → AreMoved es fs vs
+  pub values_moved : (es fs : List (List ℕ × Data)) (vs : List Value) → IsPermutation es fs → PartsHaveValues block h rows room (entry_parts u es) vs → AreMoved es fs vs
   values_moved es fs vs moved all =
       let z = zipped es vs all in
       let l = lifted (λ (q : Valued). q.entry) z.pairs fs (subst (λ xs. IsPermutation xs fs) (sym z.are) moved) in
       let own = all_moved IsOwn z.pairs l.elements l.moved z.own in
       record {
         values = values_in l.elements;
-        are = subst (λ xs. AreHeld block h rows room (entry_parts u xs) (values_in l.elements)) l.made (unzipped l.elements own);
+        are = subst (λ xs. PartsHaveValues block h rows room (entry_parts u xs) (values_in l.elements)) l.made (unzipped l.elements own);
         many = ap (λ xs. nodes_in h rows (entry_parts u xs) (values_in l.elements)) (sym l.made) ∙ counted l.elements ∙ sum_by-IsPermutation many_of z.pairs l.elements l.moved ∙ z.many;
       }

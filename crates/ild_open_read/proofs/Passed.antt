@@ -3,7 +3,7 @@ use Rattle.std.proofs.Common.{◌≡◌, ℕ, ◌+◌, ◌-◌, ◌≤◌, List,
 use Rattle.std.specs.Prelude.{Result, Ok, Err}
 use Rattle.std.specs.List.{AllByRecursion}
 use Rattle.std.proofs.lemmas.List.Sorted.{IsPermutation-sym}
-use Rattle.ild_cbor.specs.Nodes.{Stands}
+use Rattle.ild_cbor.specs.Nodes.{HasData}
 use Rattle.ild_cbor.specs.declared.node.Node.{Node}
 use Rattle.ild_cbor.specs.declared.piece.Piece.{Piece}
 use Rattle.ild_cbor.specs.declared.piece.Piece.TheVariants as P
@@ -37,7 +37,7 @@ use Rattle.ild_bulk_walker.specs.Gives.{RootGives}
 use Rattle.ild_bulk_walker.specs.Reads.{NodesBeneath}
 use Rattle.ild_open_held.specs.Entries.{HamtSplits, KeyFits, beneath}
 use Rattle.ild_open_held.specs.Held.{IsHeld}
-use Rattle.ild_open_held.specs.Splits.{AreHeld, entry_parts, entry_values, nodes_in}
+use Rattle.ild_open_held.specs.Splits.{PartsHaveValues, entry_parts, entry_values, nodes_in}
 use Rattle.ild_open_held.proofs.Hamts.{hamts_split}
 use Rattle.ild_open_rows.proofs.Given.{entries_are_given}
 use Rattle.ild_open_rows.proofs.Trees.{all_moved}
@@ -76,7 +76,7 @@ module _ (h : List ℕ → List ℕ) (p : HamtShape) (at : List ℕ) (rows : Lis
     gives : RootGives h p held (trie_levels p - 1) slots entries
     keys : AllByRecursion (KeyFits rows less key) entries
     values : List Value
-    are : AreHeld (block_at held) h rows less (entry_parts u entries) values
+    are : PartsHaveValues (block_at held) h rows less (entry_parts u entries) values
     below : ℕ
     nodes : NodesBeneath p held slots below
     sum : below + nodes_in h rows (entry_parts u entries) values ≤ many
@@ -126,7 +126,7 @@ module _ (h : List ℕ → List ℕ) (p : HamtShape) (at : List ℕ) (rows : Lis
   record HasOwned (held : List (List ℕ)) (es : List (List ℕ × Data)) : Type 0 where
     keys : AllByRecursion (KeyFits rows less key) es
     values : List Value
-    are : AreHeld (block_at held) h rows less (entry_parts u es) values
+    are : PartsHaveValues (block_at held) h rows less (entry_parts u es) values
 
   has_owned : (held : List (List ℕ)) (es : List (List ℕ × Data)) → AllByRecursion (EntryAlong h p rows less key u held []) es → HasOwned held es
   has_owned held [] all = record { keys = tt; values = []; are = tt }
@@ -159,7 +159,7 @@ module _ (h : List ℕ → List ℕ) (p : HamtShape) (at : List ℕ) (rows : Lis
       subst (λ b. ReadsHamt h p at rows less b key u piece m r n) (sym off) (subst (λ q. ReadsHamt h p at rows less false key u q m r n) (sym is) (λ s t key_at place whole stands form sum le front. read s t key_at place whole stands form sum le front.some))
 
   -- its node isn't read
-  module _ (schema : IsSchema rows) (legible : IsLegible rows) (v : NodeView) (view : (t : Data) → Stands root t → IsRootView p t v) (m n : Moment) where
+  module _ (schema : IsSchema rows) (legible : IsLegible rows) (v : NodeView) (view : (t : Data) → HasData root t → IsRootView p t v) (m n : Moment) where
     safe_at : (s : Slot) (key_at place : ℕ) → form_of rows s ≡ Some (D.Map key key_at u place (MF.Hamt p)) → IsSafe rows u
     safe_at s key_at place form = legible.clear.parts (base rows s.ty.0) (D.Map key key_at u place (MF.Hamt p)) form
 

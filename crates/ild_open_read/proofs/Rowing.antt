@@ -24,7 +24,7 @@ use Rattle.ild_schema.specs.declared.number.TypeNo.{TypeNo}
 use Rattle.ild_schema.specs.declared.row.Row.{Row}
 use Rattle.ild_schema.specs.declared.val.Val.{Val}
 use Rattle.ild_typed.specs.Fits.{Fits}
-use Rattle.ild_typed.specs.Layers.{Shows}
+use Rattle.ild_typed.specs.Layers.{RepresentsSome}
 use Rattle.ild_typed.specs.Schema.{IsSchema}
 use Rattle.ild_typed.proofs.Fronting.{values_fronts}
 use Rattle.ild_typed.proofs.OneValue.{plain_safe}
@@ -35,7 +35,7 @@ use Rattle.ild_bulk_walker.specs.Checked.{row_pair, spelled_pair}
 use Rattle.ild_bulk_walker.specs.declared.row.Row.{Row as Listed}
 use Rattle.ild_open_held.specs.Entries.{KeyFits}
 use Rattle.ild_open_held.specs.Held.{IsHeld}
-use Rattle.ild_open_held.specs.Splits.{AreHeld, entry_parts}
+use Rattle.ild_open_held.specs.Splits.{PartsHaveValues, entry_parts}
 use Rattle.ild_open_parts.specs.Broken.{IsWrongPart}
 use Rattle.ild_open_parts.specs.Hamts.{AreSpelled, BrokenRows, IsItemOf, IsSpelledRow, IsWrongRow, NoEntries, ReadsRows, RowAnswer}
 use Rattle.ild_open_parts.specs.Reads.{BrokenPart, OnlyReads, Reads, ReadsParts, Stops}
@@ -164,7 +164,7 @@ module _ (h : List ℕ → List ℕ) (rows : List Row) (room : ℕ) (keep : Bool
       each = λ es s.
           let g = x.each es s in
           let e = next_row g.rest row behind g.spelled in
-          let keyed : Meets e.first = subst (λ k. IsUtf8 k × Shows (Fits rows room) rows (plainly key) (text k)) e.key_is y.keyed in
+          let keyed : Meets e.first = subst (λ k. IsUtf8 k × RepresentsSome (Fits rows room) rows (plainly key) (text k)) e.key_is y.keyed in
           record {
             rest = e.others;
             spelled = e.left;
@@ -232,25 +232,25 @@ module _ (h : List ℕ → List ℕ) (rows : List Row) (room : ℕ) (keep : Bool
     pub tree : Data
     pub is : row.value ≡ spell tree
     pub sound : IsTree tree
-    pub keyed : Shows (Fits rows room) rows (plainly key) (text row.key)
+    pub keyed : RepresentsSome (Fits rows room) rows (plainly key) (text row.key)
     pub value : Value
     pub own : IsHeld (block_at held) h rows room u tree value
 
   own_row : (row : Listed) (behind : List Listed) (pairs : Pairs) (m n : Moment) (es : List (List ℕ × Data)) (g : HasGone es (row ∷ behind) pairs m n) → AllByRecursion (KeyFits rows room key) es
-      → (held : List (List ℕ)) (vs : List Value) → AreHeld (block_at held) h rows room (entry_parts u es) vs → HasOwn held row
+      → (held : List (List ℕ)) (vs : List Value) → PartsHaveValues (block_at held) h rows room (entry_parts u es) vs → HasOwn held row
   own_row row behind pairs m n es g keys held vs all =
       let e = next_row g.rest row behind g.spelled in
       let done = g.going.done in
       let is : es ≡ done ++ (e.first ∷ e.others) = g.going.is ∙ ap (λ (r : List (List ℕ × Data)). done ++ r) e.is in
       let k = all_split Meets done (e.first ∷ e.others) (subst (AllByRecursion Meets) is keys) in
       let parts : entry_parts u es ≡ entry_parts u done ++ (u, e.first.1) ∷ entry_parts u e.others = ap (entry_parts u) is ∙ parts_more u done (e.first ∷ e.others) in
-      let s = are_split h rows room (block_at held) (entry_parts u done) ((u, e.first.1) ∷ entry_parts u e.others) vs (subst (λ ps. AreHeld (block_at held) h rows room ps vs) parts all) in
+      let s = are_split h rows room (block_at held) (entry_parts u done) ((u, e.first.1) ∷ entry_parts u e.others) vs (subst (λ ps. PartsHaveValues (block_at held) h rows room ps vs) parts all) in
       let f = has_first h rows room (block_at held) (u, e.first.1) (entry_parts u e.others) s.right s.rest in
       record {
         tree = e.first.1;
         is = e.value_is;
         sound = e.tree;
-        keyed = subst (λ q. Shows (Fits rows room) rows (plainly key) (text q)) (sym e.key_is) k.1.0.1;
+        keyed = subst (λ q. RepresentsSome (Fits rows room) rows (plainly key) (text q)) (sym e.key_is) k.1.0.1;
         value = f.value;
         own = f.held;
       }

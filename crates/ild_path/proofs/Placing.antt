@@ -32,7 +32,7 @@ use Rattle.ild_path_place.specs.declared.verb.Verb.{Verb}
 use Rattle.ild_path.proofs.Safe.{new_safe}
 use Rattle.ild_path.specs.inside.Pieces.{ArePieces, takes}
 use Rattle.ild_path.specs.inside.Replaced.{ReplacesParts}
-use Rattle.ild_path.specs.Replaces.{ComesBy, IsChanged, IsPart, IsPlaceOf, Replaces}
+use Rattle.ild_path.specs.Replaces.{ComesBy, IsChanged, IsHeldPart, IsPlaceOf, Replaces}
 use Rattle.ild_path.specs.declared.fault.EditFault.{EditFault}
 use Rattle.ild_path_edits.specs.Edit.{Edit, change, del_at, ins_at, new_slot, set_at}
 use Rattle.ild_path_place.specs.declared.verb.Verb.TheVariants as V
@@ -200,7 +200,7 @@ swaps_of place parts are (Err e) n x slot = tt
 
 -- ---- what comes, and what goes
 
-part_held : (h : List ℕ → List ℕ) (rows : List Row) (was : List (List ℕ)) (slot : Slot) (part : Node) (w : Value) → IsSafe rows slot → IsPart h rows was slot part w → IsPartHeld h rows was slot part w
+part_held : (h : List ℕ → List ℕ) (rows : List Row) (was : List (List ℕ)) (slot : Slot) (part : Node) (w : Value) → IsSafe rows slot → IsHeldPart h rows was slot part w → IsPartHeld h rows was slot part w
 part_held h rows was slot part w safe x = record { safe = safe; room = x.room; tree = x.tree; held = x.held; stands = x.stands_for }
 
 module _ (h : List ℕ → List ℕ) (was : List (List ℕ)) (n : TypeNo) (v w c : Value) (u : Data) (path : List (List ℕ)) (verb : Verb) (place : Place) (parts : Parts) (are : ArePartsOf place parts)
@@ -219,7 +219,7 @@ module _ (h : List ℕ → List ℕ) (was : List (List ℕ)) (n : TypeNo) (v w c
   is_verb : (done : Verb) → parts.verb ≡ done → verb ≡ done
   is_verb done is = sym x.is.verb_is ∙ sym are.verb ∙ is
 
-  pub brought_set : (part : Node) (e : Edit Value) → parts.verb ≡ V.Set → ComesBy verb path w e → ((slot : Slot) → new_slot (table_at place) (plainly n, v) e ≡ Some slot → IsPart h (table_at place) was slot part w)
+  pub brought_set : (part : Node) (e : Edit Value) → parts.verb ≡ V.Set → ComesBy verb path w e → ((slot : Slot) → new_slot (table_at place) (plainly n, v) e ≡ Some slot → IsHeldPart h (table_at place) was slot part w)
       → IsChanged h (table_at place) (plainly n, v) e c u → ReplacesParts h parts (E.Set part) m r k → Replaces h (table_at place) n path c u m r k
   brought_set part e is comes b y edits =
       let same : e ≡ set_at path w = subst (λ z. ComesBy z path w e) (is_verb V.Set is) comes in
@@ -231,7 +231,7 @@ module _ (h : List ℕ → List ℕ) (was : List (List ℕ)) (n : TypeNo) (v w c
         fits = y.fits;
       }) edits
 
-  pub brought_ins : (part : Node) (e : Edit Value) → parts.verb ≡ V.Ins → ComesBy verb path w e → ((slot : Slot) → new_slot (table_at place) (plainly n, v) e ≡ Some slot → IsPart h (table_at place) was slot part w)
+  pub brought_ins : (part : Node) (e : Edit Value) → parts.verb ≡ V.Ins → ComesBy verb path w e → ((slot : Slot) → new_slot (table_at place) (plainly n, v) e ≡ Some slot → IsHeldPart h (table_at place) was slot part w)
       → IsChanged h (table_at place) (plainly n, v) e c u → ReplacesParts h parts (E.Insert part) m r k → Replaces h (table_at place) n path c u m r k
   brought_ins part e is comes b y edits =
       let same : e ≡ ins_at path w = subst (λ z. ComesBy z path w e) (is_verb V.Ins is) comes in

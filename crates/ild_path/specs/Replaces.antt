@@ -2,7 +2,7 @@
 use Rattle.std.specs.Prelude.{◌≡◌, ℕ, ◌+◌, ◌≤◌, ◌<◌, Bool, IfErr, IfOk, List, ◌∷◌, length, Some, Result, Ok, Err, Contains}
 use Rattle.std.specs.List.{AllByRecursion}
 use Rattle.ild_edges.specs.Gained.{AreIdsGiven, Clashes}
-use Rattle.ild_cbor.specs.Nodes.{Stands as StandsFor}
+use Rattle.ild_cbor.specs.Nodes.{HasData as StandsFor}
 use Rattle.ild_cbor.specs.declared.node.Node.{Node}
 use Rattle.ild_data.specs.Data.{Data}
 use Rattle.ild_data.specs.Limits.{deepest, longest_block}
@@ -59,7 +59,7 @@ pub record IsPlaceOf (h : List ℕ → List ℕ) (rows : List Row) (was : List (
   pub is : IsPlace h rows was (plainly n, v) path verb place
 
 -- the part is w, a value of the slot to which it goes, all of whose nodes are held
-pub record IsPart (h : List ℕ → List ℕ) (rows : List Row) (was : List (List ℕ)) (slot : Slot) (part : Node) (w : Value) : Type 0 where
+pub record IsHeldPart (h : List ℕ → List ℕ) (rows : List Row) (was : List (List ℕ)) (slot : Slot) (part : Node) (w : Value) : Type 0 where
   pub room : ℕ
   pub tree : Data
   pub held : IsHeld (block_at was) h rows room slot tree w
@@ -90,7 +90,7 @@ abbrev pub Brings : (List ℕ → List ℕ) → Place → Node → Moment → Re
 Brings h place part m result k =
     (held : List (List ℕ)) (n : TypeNo) (v w c : Value) (u : Data) (path : List (List ℕ)) (verb : Verb) (e : Edit Value)
     → m.blocks ≡ Some held → IsPlaceOf h (table_at place) held n v path verb place → ComesBy verb path w e
-    → ((slot : Slot) → new_slot (table_at place) (plainly n, v) e ≡ Some slot → IsPart h (table_at place) held slot part w) → IsChanged h (table_at place) (plainly n, v) e c u
+    → ((slot : Slot) → new_slot (table_at place) (plainly n, v) e ≡ Some slot → IsHeldPart h (table_at place) held slot part w) → IsChanged h (table_at place) (plainly n, v) e c u
     → Replaces h (table_at place) n path c u m result k
 
 abbrev pub Erases : (List ℕ → List ℕ) → Place → Moment → Result (List ℕ) EditFault → Moment → Type 0

@@ -3,7 +3,7 @@ use Rattle.std.proofs.Common.{◌≡◌, ◌<◌, ℕ, zero, suc, List, [], ◌�
 use Rattle.std.specs.Prelude.{Result, min, remove}
 use Rattle.std.proofs.lemmas.List.{drop_min, take_min}
 use Rattle.std.proofs.lemmas.Option.{same_Some, none-some}
-use Rattle.ild_cbor.specs.Nodes.{Finds, Stands}
+use Rattle.ild_cbor.specs.Nodes.{Finds, HasData}
 use Rattle.ild_cbor.specs.Scalar.{count_of, kind_of}
 use Rattle.ild_cbor.specs.Span.{item_of, place_of}
 use Rattle.ild_cbor.specs.declared.kind.Kind.TheVariants as K
@@ -22,7 +22,7 @@ use Rattle.ild_path_apply.proofs.Within.{alike, makes_same, no_change}
 at_place : {X : Type 0} (xs : List X) (at place : ℕ) (x : X) → place ≡ min at (length xs) → insert xs place x ≡ insert xs at x
 at_place xs at place x h = ap (λ (i : ℕ). insert xs i x) h ∙ (λ j. take_min at xs j ++ x ∷ drop_min at xs j)
 
-pub clipped : (n : Node) (at place : ℕ) (x : Data) (r : Result (List ℕ) SpliceErr) → ((d : Data) → Stands n d → kind_of d ≡ K.List) → ((d : Data) (m : ℕ) → Stands n d → count_of d ≡ Some m → place ≡ min at m)
+pub clipped : (n : Node) (at place : ℕ) (x : Data) (r : Result (List ℕ) SpliceErr) → ((d : Data) → HasData n d → kind_of d ≡ K.List) → ((d : Data) (m : ℕ) → HasData n d → count_of d ≡ Some m → place ≡ min at m)
     → Splices n (insert_item place x) r → Applies n (one [] (insert_item at x)) r
 clipped n at place x r list within s = record {
   makes = λ t d q is.
@@ -30,7 +30,7 @@ clipped n at place x r list within s = record {
       makes_same (changed q (insert_item place x) t) (changed (q ++ []) (insert_item at x) t) r
       (alike (insert_item place x) (insert_item at x) t d q is.part same ∙ ap (λ p. changed p (insert_item at x) t) (sym (append-nil q))) (s.makes t d q is);
 } where
-  by : (d : Data) → kind_of d ≡ K.List → ((m : ℕ) → Stands n d → count_of d ≡ Some m → place ≡ min at m) → Stands n d → change_here (insert_item place x) d ≡ change_here (insert_item at x) d
+  by : (d : Data) → kind_of d ≡ K.List → ((m : ℕ) → HasData n d → count_of d ≡ Some m → place ≡ min at m) → HasData n d → change_here (insert_item place x) d ≡ change_here (insert_item at x) d
   by T.null e w h = refl
   by (T.boolean b) e w h = refl
   by (T.integer m) e w h = refl
@@ -41,7 +41,7 @@ clipped n at place x r list within s = record {
   by (T.link y) e w h = refl
 
 -- nothing comes into what is no list
-pub not_list : (n : Node) (at : ℕ) (x : Data) (r : Result (List ℕ) SpliceErr) → Applies n unchanged r → ((d : Data) → Stands n d → kind_of d ≡ K.List → ⊥) → Applies n (one [] (insert_item at x)) r
+pub not_list : (n : Node) (at : ℕ) (x : Data) (r : Result (List ℕ) SpliceErr) → Applies n unchanged r → ((d : Data) → HasData n d → kind_of d ≡ K.List → ⊥) → Applies n (one [] (insert_item at x)) r
 not_list n at x r s never = no_change n (insert_item at x) r s (λ d stands. by d (never d stands)) where
   by : (d : Data) → (kind_of d ≡ K.List → ⊥) → change_here (insert_item at x) d ≡ d
   by T.null h = refl
@@ -79,7 +79,7 @@ item_in (T.list ds) e i h = record { list = refl; less = λ m c. subst (λ (k : 
 item_in (T.map ms) e i h = absurd (none-some e h)
 item_in (T.link y) e i h = absurd (none-some e h)
 
-pub item_is : (n m : Node) (d : Data) (i : ℕ) → Stands n d → ((u : Data) → Stands n u → Finds n (place_of u i) (item_of u i) (Some m)) → IsItem d i
+pub item_is : (n m : Node) (d : Data) (i : ℕ) → HasData n d → ((u : Data) → HasData n u → Finds n (place_of u i) (item_of u i) (Some m)) → IsItem d i
 item_is n m d i stands finds = let x = found_some n m (place_of d i) (item_of d i) (finds d stands) in item_in d x.0 i x.1
 
 no_item : (d : Data) (i : ℕ) → item_of d i ≡ None → change_here (remove_item i) d ≡ d
@@ -92,5 +92,5 @@ no_item (T.list ds) i h = ap T.list (ap items_of (remove_past (items_list ds) i 
 no_item (T.map ms) i h = refl
 no_item (T.link y) i h = refl
 
-pub no_item_goes : (n : Node) (i : ℕ) (r : Result (List ℕ) SpliceErr) → ((u : Data) → Stands n u → Finds n (place_of u i) (item_of u i) None) → Applies n unchanged r → Applies n (one [] (remove_item i)) r
+pub no_item_goes : (n : Node) (i : ℕ) (r : Result (List ℕ) SpliceErr) → ((u : Data) → HasData n u → Finds n (place_of u i) (item_of u i) None) → Applies n unchanged r → Applies n (one [] (remove_item i)) r
 no_item_goes n i r finds s = no_change n (remove_item i) r s (λ d stands. no_item d i (found_none n (place_of d i) (item_of d i) (finds d stands)))

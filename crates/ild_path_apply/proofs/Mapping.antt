@@ -3,7 +3,7 @@ use Rattle.std.proofs.Common.{◌≡◌, ℕ, List, [], ◌∷◌, ◌++◌, app
 use Rattle.std.specs.Prelude.{Result, is_some}
 use Rattle.std.specs.Option.{option_map_or}
 use Rattle.std.proofs.lemmas.Option.{same_Some, none-some}
-use Rattle.ild_cbor.specs.Nodes.{Finds, Stands}
+use Rattle.ild_cbor.specs.Nodes.{Finds, HasData}
 use Rattle.ild_cbor.specs.Scalar.{kind_of}
 use Rattle.ild_cbor.specs.Span.{entry_of, index_of, place_of}
 use Rattle.ild_cbor.specs.declared.kind.Kind.TheVariants as K
@@ -46,10 +46,10 @@ entry_in (T.list ds) e k h = absurd (none-some e h)
 entry_in (T.map ms) e k h = record { map = refl; there = ap is_some h }
 entry_in (T.link y) e k h = absurd (none-some e h)
 
-pub entry_is : (n m : Node) (d : Data) (k : List ℕ) → Stands n d → ((u : Data) → Stands n u → Finds n (place_of u (index_of k u)) (entry_of u k) (Some m)) → IsEntry d k
+pub entry_is : (n m : Node) (d : Data) (k : List ℕ) → HasData n d → ((u : Data) → HasData n u → Finds n (place_of u (index_of k u)) (entry_of u k) (Some m)) → IsEntry d k
 entry_is n m d k stands finds = let x = found_some n m (place_of d (index_of k d)) (entry_of d k) (finds d stands) in entry_in d x.0 k x.1
 
-pub no_entry_is : (n : Node) (d : Data) (k : List ℕ) → Stands n d → ((u : Data) → Stands n u → Finds n (place_of u (index_of k u)) (entry_of u k) None) → entry_of d k ≡ None
+pub no_entry_is : (n : Node) (d : Data) (k : List ℕ) → HasData n d → ((u : Data) → HasData n u → Finds n (place_of u (index_of k u)) (entry_of u k) None) → entry_of d k ≡ None
 no_entry_is n d k stands finds = found_none n (place_of d (index_of k d)) (entry_of d k) (finds d stands)
 
 no_entry : (d : Data) (k : List ℕ) → entry_of d k ≡ None → change_here (remove_entry k) d ≡ d
@@ -62,11 +62,11 @@ no_entry (T.list ds) k h = refl
 no_entry (T.map ms) k h = ap T.map (ap members_of (without_past k (members_list ms) h) ∙ members_of-members_list ms)
 no_entry (T.link y) k h = refl
 
-pub no_entry_goes : (n : Node) (k : List ℕ) (r : Result (List ℕ) SpliceErr) → ((u : Data) → Stands n u → Finds n (place_of u (index_of k u)) (entry_of u k) None) → Applies n unchanged r → Applies n (one [] (remove_entry k)) r
+pub no_entry_goes : (n : Node) (k : List ℕ) (r : Result (List ℕ) SpliceErr) → ((u : Data) → HasData n u → Finds n (place_of u (index_of k u)) (entry_of u k) None) → Applies n unchanged r → Applies n (one [] (remove_entry k)) r
 no_entry_goes n k r finds s = no_change n (remove_entry k) r s (λ d stands. no_entry d k (no_entry_is n d k stands finds))
 
 -- nothing comes into what is no map
-pub not_map : (n : Node) (k : List ℕ) (x : Data) (r : Result (List ℕ) SpliceErr) → Applies n unchanged r → ((d : Data) → Stands n d → kind_of d ≡ K.Map → ⊥) → Applies n (one [] (insert_entry k x)) r
+pub not_map : (n : Node) (k : List ℕ) (x : Data) (r : Result (List ℕ) SpliceErr) → Applies n unchanged r → ((d : Data) → HasData n d → kind_of d ≡ K.Map → ⊥) → Applies n (one [] (insert_entry k x)) r
 not_map n k x r s never = no_change n (insert_entry k x) r s (λ d stands. by d (never d stands)) where
   by : (d : Data) → (kind_of d ≡ K.Map → ⊥) → change_here (insert_entry k x) d ≡ d
   by T.null h = refl
@@ -91,7 +91,7 @@ put_here (T.map ms) e x k tree h =
     ap (λ ys. T.map (members_of ys)) (sym (put-replaces k e x (members_list ms) up (rises_put k x (members_list ms) up) h))
 put_here (T.link y) e x k tree h = absurd (none-some e h)
 
-pub entry_again : (n m : Node) (k : List ℕ) (x : Data) (r : Result (List ℕ) SpliceErr) → ((u : Data) → Stands n u → Finds n (place_of u (index_of k u)) (entry_of u k) (Some m)) → Splices m (replace x) r
+pub entry_again : (n m : Node) (k : List ℕ) (x : Data) (r : Result (List ℕ) SpliceErr) → ((u : Data) → HasData n u → Finds n (place_of u (index_of k u)) (entry_of u k) (Some m)) → Splices m (replace x) r
     → Applies n (one [] (insert_entry k x)) r
 entry_again n m k x r finds s = record {
   makes = λ t d q at.

@@ -8,7 +8,7 @@ use Rattle.ild_path_last.specs.Change.{NewIs}
 use Rattle.ild_path_last.specs.declared.change.LastChange.{LastChange}
 use Rattle.ild_path_last.specs.declared.change.LastChange.TheVariants as C
 use Rattle.ild_path_changes.specs.Lift.{lift_within}
-use Rattle.ild_splice.specs.Made.{Makes}
+use Rattle.ild_splice.specs.Made.{MakesBytes}
 use Rattle.ild_splice.specs.Splices.{IsAt}
 use Rattle.ild_splice.specs.declared.error.SpliceErr.{SpliceErr}
 use Rattle.ild_path_steps.specs.declared.steps.PartSteps.{PartSteps}
@@ -16,7 +16,7 @@ use Rattle.ild_path_steps.specs.declared.steps.PartSteps.TheVariants as P
 
 -- of whatever tree the node is a part: the answer is the spelling of that tree with this change within that part, or that it is too long
 pub record Applies (n : Node) (e : Located) (result : Result (List ℕ) SpliceErr) : Type 0 where
-  pub makes : (t d : Data) (q : List TreeStep) → IsAt n t q d → Makes (spell (applied (lift_within q e) t)) result
+  pub makes : (t d : Data) (q : List TreeStep) → IsAt n t q d → MakesBytes (spell (applied (lift_within q e) t)) result
 
 -- the node of a part, exactly where there is the part
 abbrev pub IsThere : Data → List TreeStep → Option Data → Option Node → Type 0

@@ -1,7 +1,7 @@
 //! Each change of an item, where it may be that there is no such part.
 ghost use Rattle.std.specs.Prelude.{[], Option};
 ghost use Rattle.ild_path_apply.specs.Applies.{Applies};
-ghost use Rattle.ild_cbor.specs.Nodes.{Stands};
+ghost use Rattle.ild_cbor.specs.Nodes.{HasData};
 ghost use Rattle.ild_splice_changes.specs.TreeChange.{insert_entry as entry_comes, insert_item as item_comes, one, remove_entry as entry_goes, remove_item as item_goes, replace as replaced, unchanged};
 ghost use Rattle.ild_data.specs.Data.{Data};
 ghost use Rattle.ild_path_last.specs.Change.{NewIs};
@@ -47,7 +47,7 @@ pub(crate) fn with_part(
     steps: &PartSteps<'_>,
     new: &Node<'_>,
 ) -> Result<Octets, SpliceErr>
-    ensures { (x : Data) → Stands new.now x → Applies node.now (lift_within (tree_steps steps.now) (one [] (replaced x))) result }
+    ensures { (x : Data) → HasData new.now x → Applies node.now (lift_within (tree_steps steps.now) (one [] (replaced x))) result }
 {
     match part_of(node, steps) {
         Some(part) => replace(alloc, &part, new),
@@ -62,7 +62,7 @@ pub(crate) fn with_item(
     at: u64,
     new: &Node<'_>,
 ) -> Result<Octets, SpliceErr>
-    ensures { (x : Data) → Stands new.now x → Applies list.now (one [] (item_comes at x)) result }
+    ensures { (x : Data) → HasData new.now x → Applies list.now (one [] (item_comes at x)) result }
 {
     match list.kind() {
         Kind::List => insert_item(alloc, list, place_in(list, at), new),
@@ -78,7 +78,7 @@ pub(crate) fn with_pair(
     key: &str,
     new: &Node<'_>,
 ) -> Result<Octets, SpliceErr>
-    ensures { (x : Data) → Stands new.now x → Applies list.now (one [] (item_comes at (pair_of key.now x))) result }
+    ensures { (x : Data) → HasData new.now x → Applies list.now (one [] (item_comes at (pair_of key.now x))) result }
 {
     match list.kind() {
         Kind::List => insert_pair(alloc, list, place_in(list, at), key, new),
@@ -93,7 +93,7 @@ pub(crate) fn with_entry(
     key: &str,
     new: &Node<'_>,
 ) -> Result<Octets, SpliceErr>
-    ensures { (x : Data) → Stands new.now x → Applies map.now (one [] (entry_comes key.now x)) result }
+    ensures { (x : Data) → HasData new.now x → Applies map.now (one [] (entry_comes key.now x)) result }
 {
     let Kind::Map = map.kind() else {
         return same(alloc, map);

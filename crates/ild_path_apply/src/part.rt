@@ -1,7 +1,7 @@
 //! The item of a part.
 ghost use Rattle.std.specs.Prelude.{◌≡◌, ◌++◌, ◌∷◌, [], ℕ, List, Option, Some, min, option_and_then};
 ghost use Rattle.ild_path_apply.specs.Applies.{IsThere};
-ghost use Rattle.ild_cbor.specs.Nodes.{Stands};
+ghost use Rattle.ild_cbor.specs.Nodes.{HasData};
 ghost use Rattle.ild_cbor.specs.Scalar.{count_of};
 ghost use Rattle.ild_splice_changes.specs.TreeChange.{TreeStep, child, nth, part_at};
 ghost use Rattle.ild_data.specs.Data.{Data};
@@ -35,7 +35,7 @@ pub(crate) fn part_of<'b>(node: &Node<'b>, steps: &PartSteps<'_>) -> Option<Node
 
 /// A place in a list, or the one behind its last item.
 pub(crate) fn place_in(list: &Node<'_>, at: u64) -> u64
-    ensures { (d : Data) (n : ℕ) → Stands list.now d → count_of d ≡ Some n → result ≡ min at n }
+    ensures { (d : Data) (n : ℕ) → HasData list.now d → count_of d ≡ Some n → result ≡ min at n }
 {
     at.min(list.count().unwrap_or(at))
 }

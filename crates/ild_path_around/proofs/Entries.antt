@@ -5,7 +5,7 @@ use Rattle.std.specs.Option.{option_map_or}
 use Rattle.ild_data.specs.Data.{Data}
 use Rattle.ild_path_delimiter.specs.Laws.{OnlyTextsBreak}
 use Rattle.ild_path_entered.proofs.Editing.{entry_part, through_at, with_typed}
-use Rattle.ild_path_entered.specs.Entered.{Passes, path_through}
+use Rattle.ild_path_entered.specs.Entered.{PassesHamts, path_through}
 use Rattle.ild_path_around.proofs.Outside.{along, hamt_passes, outside, set_step}
 use Rattle.ild_path_around.specs.Outside.{OutsideOfEntries}
 use Rattle.ild_path_within.proofs.Splitting.{parts_of_parts}
@@ -23,7 +23,7 @@ use Rattle.ild_typed.specs.Schema.{IsSchema}
 use Rattle.ild_typed.specs.Segment.{set_part}
 
 module _ (only : OnlyTextsBreak) (h : List ℕ → List ℕ) (rows : List Row) (is_key : ℕ → List ℕ → Bool) (schema : IsSchema rows) (keys : TestsKeys rows is_key) where
-  pub entries_outside : (gs : List (List (List ℕ) × List ℕ)) (p q : InSlot) (d : Data) (m : Value) → OfType rows p.0 p.1 → represented (whole h) rows p.0 p.1 ≡ Some d → Passes rows p gs q → OfType rows q.0 m
+  pub entries_outside : (gs : List (List (List ℕ) × List ℕ)) (p q : InSlot) (d : Data) (m : Value) → OfType rows p.0 p.1 → represented (whole h) rows p.0 p.1 ≡ Some d → PassesHamts rows p gs q → OfType rows q.0 m
       → breaks_delimiter rows p.0 (with_part rows p (path_through gs) m) ≡ breaks_delimiter rows q.0 m
   entries_outside [] p q d m typed made e new = ap (λ (r : InSlot). breaks_delimiter rows r.0 m) e
   entries_outside (g ∷ gs) p q d m typed made (slot, elem, ps, w, x, there, rest) new =

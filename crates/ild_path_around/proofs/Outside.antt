@@ -10,7 +10,7 @@ use Rattle.ild_path_changes.specs.LiftLaws.{of_fronts, of_values}
 use Rattle.ild_path_delimiter.specs.Laws.{OnlyTextsBreak}
 use Rattle.ild_path_edits.proofs.KeepTyped.{of_type_is_kept}
 use Rattle.ild_path_edits.proofs.LayerTesting.{set_is_judged}
-use Rattle.ild_path_edits.specs.Along.{Passes}
+use Rattle.ild_path_edits.specs.Along.{LayerPasses}
 use Rattle.ild_path_entered.proofs.Editing.{with_typed}
 use Rattle.ild_path_holder.proofs.Written.{has_part}
 use Rattle.ild_path_nodes.specs.NodeLaws.{IsHamt}
@@ -72,7 +72,7 @@ module _ (rows : List Row) (slot elem : Slot) (ps : Pairs) (is : IsHamt rows slo
 
 -- a HAMT has no delimiter rule
 module _ (rows : List Row) where
-  passes_by : (slot : Slot) → ((v : Value) → breaks rows (form_of rows slot) v ≡ false) → (k : Holder) → Passes (breaks rows) rows slot k
+  passes_by : (slot : Slot) → ((v : Value) → breaks rows (form_of rows slot) v ≡ false) → (k : Holder) → LayerPasses (breaks rows) rows slot k
   passes_by slot quiet (fields fs os) = quiet (value_of (fields fs os))
   passes_by slot quiet (member ms n v) = quiet (value_of (member ms n v))
   passes_by slot quiet (entries key elem paired ps) = quiet (value_of (entries key elem paired ps))
@@ -90,13 +90,13 @@ module _ (rows : List Row) where
   form_quiet (Some (D.Map k k_at elem at (MF.StringPairs i j))) e v = absurd cc
   form_quiet (Some d) e v = absurd cc
 
-  pub hamt_passes : (slot elem : Slot) → IsHamt rows slot elem → (k : Holder) → Passes (breaks rows) rows slot k
+  pub hamt_passes : (slot elem : Slot) → IsHamt rows slot elem → (k : Holder) → LayerPasses (breaks rows) rows slot k
   hamt_passes slot elem is k = passes_by slot (form_quiet (form_of rows slot) (ap is_hamt is.4)) k
 
   no_parts : {A : Type 0} (q : InSlot) (s : List ℕ) (v : Value) → part (nothing v) s ≡ Some q → A
   no_parts q s v e = absurd (none-some q e)
 
-  root_passes : (p q : InSlot) (s : List ℕ) → is_root rows p ≡ true → part (seen rows p) s ≡ Some q → (k : Holder) → Passes (breaks rows) rows p.0 k
+  root_passes : (p q : InSlot) (s : List ℕ) → is_root rows p ≡ true → part (seen rows p) s ≡ Some q → (k : Holder) → LayerPasses (breaks rows) rows p.0 k
   root_passes (slot, V.map ps) q s root there k = passes_by slot (form_quiet (form_of rows slot) root) k
   root_passes (slot, V.hamt t) q s root there k = no_parts q s (V.hamt t) there
   root_passes (slot, v) q s root there k = let wrong : false ≡ true = root in absurd cc
@@ -141,7 +141,7 @@ module _ (only : OnlyTextsBreak) (h : List ℕ → List ℕ) (rows : List Row) (
     by (Some j) e = absurd (not_alone path p slot elem ps d is typed there (flat_alone h rows p.0 p.1 d made (flat_text d j e)))
 
   -- so it has no delimiter rule, whatever becomes of it
-  silent : (p q : InSlot) (s : List ℕ) (d : Data) → Of p → represented (whole h) rows p.0 p.1 ≡ Some d → text_in d ≡ None → is_root rows p ≡ false → part (seen rows p) s ≡ Some q → (k : Holder) → Passes (breaks rows) rows p.0 k
+  silent : (p q : InSlot) (s : List ℕ) (d : Data) → Of p → represented (whole h) rows p.0 p.1 ≡ Some d → text_in d ≡ None → is_root rows p ≡ false → part (seen rows p) s ≡ Some q → (k : Holder) → LayerPasses (breaks rows) rows p.0 k
   silent p q s d typed made none plain there k =
       let f = front_in h rows p in
       let e : part (seen rows f) s ≡ Some (front_in h rows q) = parts_of_fronts h rows is_key schema keys p s typed plain ∙ ap (option_map (front_in h rows)) there in
@@ -151,7 +151,7 @@ module _ (only : OnlyTextsBreak) (h : List ℕ → List ℕ) (rows : List Row) (
   no_breaks slot v d made = (tree_sound h rows slot v d made).2
 
   -- a part of what has no delimiter rule becomes another
-  pub set_step : (p q : InSlot) (s : List ℕ) (d : Data) (m : Value) → Of p → represented (whole h) rows p.0 p.1 ≡ Some d → ((k : Holder) → Passes (breaks rows) rows p.0 k) → part (seen rows p) s ≡ Some q → OfType rows q.0 m
+  pub set_step : (p q : InSlot) (s : List ℕ) (d : Data) (m : Value) → Of p → represented (whole h) rows p.0 p.1 ≡ Some d → ((k : Holder) → LayerPasses (breaks rows) rows p.0 k) → part (seen rows p) s ≡ Some q → OfType rows q.0 m
       → breaks_delimiter rows p.0 (value_of (set_part (seen rows p) s m)) ≡ breaks_delimiter rows q.0 m
   set_step p q s d m typed made silent there new =
       let kept = of_type_is_kept rows is_key schema keys in
@@ -159,7 +159,7 @@ module _ (only : OnlyTextsBreak) (h : List ℕ → List ℕ) (rows : List Row) (
       bool_same (breaks_delimiter rows p.0 (value_of (set_part (seen rows p) s m))) (breaks_delimiter rows q.0 m) (λ e. (j.0 e).1) (λ e. j.1 (silent (set_part (seen rows p) s m), e))
 
   -- a HAMT or not
-  by_root : (p q : InSlot) (s : List ℕ) (d : Data) → Of p → represented (whole h) rows p.0 p.1 ≡ Some d → text_in d ≡ None → part (seen rows p) s ≡ Some q → (b : Bool) → is_root rows p ≡ b → (k : Holder) → Passes (breaks rows) rows p.0 k
+  by_root : (p q : InSlot) (s : List ℕ) (d : Data) → Of p → represented (whole h) rows p.0 p.1 ≡ Some d → text_in d ≡ None → part (seen rows p) s ≡ Some q → (b : Bool) → is_root rows p ≡ b → (k : Holder) → LayerPasses (breaks rows) rows p.0 k
   by_root p q s d typed made none there false plain k = silent p q s d typed made none plain there k
   by_root p q s d typed made none there true root k = root_passes rows p q s root there k
 
@@ -174,7 +174,7 @@ module _ (only : OnlyTextsBreak) (h : List ℕ → List ℕ) (rows : List Row) (
       let y = whole_part p q s d typed x.there made in
       let c = with_part rows q ss m in
       let of_c : OfType rows q.0 c = with_typed rows is_key schema keys ss q (slot, V.map ps) m inner x.made new in
-      let rule : (k : Holder) → Passes (breaks rows) rows p.0 k = λ k. by_root p q s d typed made (no_text (s ∷ ss) p slot elem ps d is typed there made) x.there (is_root rows p) refl k in
+      let rule : (k : Holder) → LayerPasses (breaks rows) rows p.0 k = λ k. by_root p q s d typed made (no_text (s ∷ ss) p slot elem ps d is typed there made) x.there (is_root rows p) refl k in
       ap (λ o. breaks_delimiter rows p.0 (option_map_or (λ r. value_of (set_part (seen rows p) s (with_part rows r ss m))) o p.1)) x.there
       ∙ set_step p q s d c typed made rule x.there of_c
       ∙ outside ss q slot elem ps y.0 m inner y.1 x.made is new

@@ -7,7 +7,7 @@ use Rattle.ild_path_delimiter.proofs.Freeing.{deleted, insert_free, set_free}
 use Rattle.ild_path_edits.proofs.KeepTyped.{of_type_is_kept}
 use Rattle.ild_path_edits.proofs.LayerTesting.{free_is_layered, judged_along}
 use Rattle.ild_path_edits.proofs.Paths.{deleted_typed, inserted_typed, last_text, may_stand, set_typed}
-use Rattle.ild_path_edits.specs.Along.{AtPart, IsFree, IsFreeAlong, Passes}
+use Rattle.ild_path_edits.specs.Along.{AtPart, IsFree, IsFreeAlong, LayerPasses}
 use Rattle.ild_path_edits.specs.Edit.{Edit, HasTextPath, change, del_at, del_in, ins_at, ins_in, path_of, placed, set_at, set_in, unless_kept}
 use Rattle.ild_path_edits.specs.EditLaws.{Brings}
 use Rattle.ild_path_edits.specs.Table.{MayStand, delete_part, insert_part, key_fits, refusal_to_delete, slot_to_insert, slot_to_set}
@@ -46,7 +46,7 @@ module _ (rows : List Row) where
   plain_free (Some (D.Map k k_at elem at (MF.StringPairs i j))) v e = refl
   plain_free (Some d) v e = refl
 
-  passes_plain : (slot : Slot) (k : Holder) → stands_as_root (form_of rows slot) (value_of k) ≡ false → Passes Inside rows slot k
+  passes_plain : (slot : Slot) (k : Holder) → stands_as_root (form_of rows slot) (value_of k) ≡ false → LayerPasses Inside rows slot k
   passes_plain slot (fields fs os) e = plain_free (form_of rows slot) (value_of (fields fs os)) e
   passes_plain slot (member ms n v) e = plain_free (form_of rows slot) (value_of (member ms n v)) e
   passes_plain slot (entries key elem paired ps) e = plain_free (form_of rows slot) (value_of (entries key elem paired ps)) e
@@ -66,7 +66,7 @@ module _ (h : List ℕ → List ℕ) (rows : List Row) (is_key : ℕ → List �
       (keeps : (q : InSlot) → Of q → is_root rows q ≡ false → seen rows q ≡ l.0 → Free q.0 q.1 → Free q.0 (value_of (f l.0 l.1))) where
     first_free : (p : InSlot) (s t : List ℕ) (ts : List (List ℕ)) → is_root rows p ≡ false → (o : Option InSlot) → option_and_then (λ q. last_holder rows q t ts) o ≡ Some l
         → ((q : InSlot) → part (seen rows p) s ≡ Some q → last_holder rows q t ts ≡ Some l → IsFreeAlong (breaks_inside rows) rows f q t ts) → part (seen rows p) s ≡ o
-        → AtPart o (λ q. Passes (breaks_inside rows) rows p.0 (set_part (seen rows p) s (changed_in rows f q t ts)) × IsFreeAlong (breaks_inside rows) rows f q t ts)
+        → AtPart o (λ q. LayerPasses (breaks_inside rows) rows p.0 (set_part (seen rows p) s (changed_in rows f q t ts)) × IsFreeAlong (breaks_inside rows) rows f q t ts)
     first_free p s t ts plain None last rest e = tt
     first_free p s t ts plain (Some q) last rest e = (
       passes_plain rows p.0 (set_part (seen rows p) s (changed_in rows f q t ts)) (set_root (form_of rows p.0) (seen rows p) s (changed_in rows f q t ts) (plain_held h rows is_key schema keys p plain)),

@@ -1,7 +1,7 @@
 -- Delimiters around HAMTs: no HAMT stands in a text (IPLD Schemas, "stringjoin", "stringpairs", "stringprefix").
 use Rattle.std.specs.Prelude.{◌≡◌, ℕ, Bool, List, Some}
 use Rattle.ild_data.specs.Data.{Data}
-use Rattle.ild_path_entered.specs.Entered.{Passes, path_through}
+use Rattle.ild_path_entered.specs.Entered.{PassesHamts, path_through}
 use Rattle.ild_path_nodes.specs.NodeLaws.{IsHamt}
 use Rattle.ild_path_within.specs.Within.{with_part}
 use Rattle.ild_schema.specs.declared.number.Slot.{Slot}
@@ -26,5 +26,5 @@ OutsideOfHamts =
 abbrev pub OutsideOfEntries : Type 0
 OutsideOfEntries =
     (h : List ℕ → List ℕ) (rows : List Row) (is_key : ℕ → List ℕ → Bool) → IsSchema rows → TestsKeys rows is_key → (p q : InSlot) (gs : List (List (List ℕ) × List ℕ)) (d : Data) (m : Value)
-    → OfType rows p.0 p.1 → represented (whole h) rows p.0 p.1 ≡ Some d → Passes rows p gs q → OfType rows q.0 m
+    → OfType rows p.0 p.1 → represented (whole h) rows p.0 p.1 ≡ Some d → PassesHamts rows p gs q → OfType rows q.0 m
     → breaks_delimiter rows p.0 (with_part rows p (path_through gs) m) ≡ breaks_delimiter rows q.0 m

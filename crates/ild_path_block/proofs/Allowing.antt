@@ -3,7 +3,7 @@ use Rattle.std.proofs.Common.{◌≡◌, ◌-◌, ℕ, Bool, true, false, List, 
 use Rattle.std.specs.List.{AllByRecursion}
 use Rattle.std.specs.Prelude.{IsUtf8, Ok, option_and_then, slice_get}
 use Rattle.std.proofs.lemmas.Option.{none-some, same_Some}
-use Rattle.ild_cbor.specs.Nodes.{Stands}
+use Rattle.ild_cbor.specs.Nodes.{HasData}
 use Rattle.ild_cbor.specs.declared.node.Node.{Node}
 use Rattle.ild_cbor.specs.declared.piece.Piece.TheVariants as P
 use Rattle.ild_data.specs.Data.{Data}
@@ -15,7 +15,7 @@ use Rattle.ild_path_changes.specs.Lift.{lift, lifted}
 use Rattle.ild_path_changes.specs.LiftLaws.{edit_seen, seen_from}
 use Rattle.ild_path_block.proofs.Numbering.{same_last, seen_last}
 use Rattle.ild_path_block.specs.Changes.{Allows, IsChange, IsReady, in_last}
-use Rattle.ild_path_block.specs.Edits.{BringsPart, Edits, IsNewRoot, IsPart, IsRootView, Makes, RootsAreViewed, edit_of}
+use Rattle.ild_path_block.specs.Edits.{BringsPart, EditsPart, IsNewRoot, IsPartItem, IsRootView, EditMakes, RootsAreViewed, edit_of}
 use Rattle.ild_path_block.specs.declared.edit.PartEdit.{PartEdit}
 use Rattle.ild_path_block.specs.declared.edit.PartEdit.TheVariants as E
 use Rattle.ild_layer_piece.specs.Pieces.{StandsFor}
@@ -122,7 +122,7 @@ pub record IsAllowed (rows : List Row) (p : InSlot) (s : List ℕ) (ss : List (L
   pub allows : Allows rows edit (seen rows last) (last_of s ss) w
 
 module _ (rows : List Row) (is_key : ℕ → List ℕ → Bool) (p : InSlot) (s : List ℕ) (ss : List (List ℕ)) (w c : Value) where
-  pub allowed : (edit : PartEdit) → BringsPart rows p (s ∷ ss) edit w → Makes rows is_key edit w p (s ∷ ss) c → IsAllowed rows p s ss edit w
+  pub allowed : (edit : PartEdit) → BringsPart rows p (s ∷ ss) edit w → EditMakes rows is_key edit w p (s ∷ ss) c → IsAllowed rows p s ss edit w
   allowed (E.Set n) brings makes =
       let x = set_there is_key c (changed_in rows (λ h t. set_part h t w) p s ss) (last_holder rows p s ss) makes in
       let y = seen_last rows p s ss x.0 x.1 in
@@ -150,8 +150,8 @@ module _ (rows : List Row) (is_key : ℕ → List ℕ → Bool) (p : InSlot) (s 
       record { last = y.0; at = y.1; holds = delete_holds (seen rows y.0) (last_of s ss) there; allows = there }
 
   -- the same edit of each holder on the way, at the rest of the path
-  pub makes_rest : (edit : PartEdit) → Makes rows is_key edit w p (s ∷ ss) c → (h : InSlot) (t : List ℕ) (ts : List (List ℕ)) → last_holder rows h t ts ≡ last_holder rows p s ss
-      → Makes rows is_key edit w h (t ∷ ts) (changed_in rows (in_last edit w).made h t ts)
+  pub makes_rest : (edit : PartEdit) → EditMakes rows is_key edit w p (s ∷ ss) c → (h : InSlot) (t : List ℕ) (ts : List (List ℕ)) → last_holder rows h t ts ≡ last_holder rows p s ss
+      → EditMakes rows is_key edit w h (t ∷ ts) (changed_in rows (in_last edit w).made h t ts)
   makes_rest (E.Set n) makes h t ts same =
       ap (set_in is_key (changed_in rows (λ h t. set_part h t w) h t ts)) same
       ∙ set_again is_key c (changed_in rows (λ h t. set_part h t w) p s ss) (changed_in rows (λ h t. set_part h t w) h t ts) (last_holder rows p s ss) makes
@@ -162,7 +162,7 @@ module _ (rows : List Row) (is_key : ℕ → List ℕ → Bool) (p : InSlot) (s 
       ap (del_in (changed_in rows delete_part h t ts)) same ∙ delete_again is_key c (changed_in rows delete_part p s ss) (changed_in rows delete_part h t ts) (last_holder rows p s ss) makes
 
   -- what the law of edits says of it
-  pub edited : ChangesAreEdited → IsSchema rows → TestsKeys rows is_key → (edit : PartEdit) → AllByRecursion IsUtf8 (s ∷ ss) → BringsPart rows p (s ∷ ss) edit w → Makes rows is_key edit w p (s ∷ ss) c → OfType rows p.0 p.1
+  pub edited : ChangesAreEdited → IsSchema rows → TestsKeys rows is_key → (edit : PartEdit) → AllByRecursion IsUtf8 (s ∷ ss) → BringsPart rows p (s ∷ ss) edit w → EditMakes rows is_key edit w p (s ∷ ss) c → OfType rows p.0 p.1
       → (q : InSlot) (x t u : Data) (steps : List PartSteps) (last : LastChange) (r : Option ℕ) → represented alone rows p.0 p.1 ≡ Some t → represented alone rows p.0 c ≡ Some u
       → IsTold rows (in_last edit w) p q s ss x steps last r → IsEdited rows (in_last edit w) p q s ss x steps last r t u
   edited law schema keys (E.Set n) texts brings makes is q x t u steps last r was now told =
@@ -172,11 +172,11 @@ module _ (rows : List Row) (is_key : ℕ → List ℕ → Bool) (p : InSlot) (s 
   edited law schema keys E.Delete texts brings makes is q x t u steps last r was now told = law rows is_key schema keys p q (del_at (s ∷ ss)) c s ss x t u steps last r texts tt is makes refl told was now
 
   -- the whole value is set
-  pub new_root : (edit : PartEdit) (u : Data) → BringsPart rows p [] edit w → Makes rows is_key edit w p [] c → represented alone rows p.0 c ≡ Some u → IsNewRoot edit u
+  pub new_root : (edit : PartEdit) (u : Data) → BringsPart rows p [] edit w → EditMakes rows is_key edit w p [] c → represented alone rows p.0 c ≡ Some u → IsNewRoot edit u
   new_root (E.Set n) u brings makes now =
-      let new : IsPart rows p.0 n w = brings p.0 refl in
+      let new : IsPartItem rows p.0 n w = brings p.0 refl in
       let same : w ≡ c = cc makes in
-      subst (Stands n) (same_Some new.tree u (sym new.tree_is ∙ ap (represented alone rows p.0) same ∙ now)) new.stands
+      subst (HasData n) (same_Some new.tree u (sym new.tree_is ∙ ap (represented alone rows p.0) same ∙ now)) new.stands
   new_root (E.Insert n) u brings makes now = absurd cc
   new_root E.Delete u brings makes now = absurd cc
 
@@ -233,17 +233,17 @@ some_last (s ∷ ss) x e = (s, ss, refl, same_Some x (last_of s ss) (e ∙ at_la
 
 -- ---- the whole
 
-module _ (v : View) (is_key : ℕ → List ℕ → Bool) (path : List (List ℕ)) (edit : PartEdit) (f w c : Value) (t u : Data) (e : Edits is_key v path edit f w c t u) where
+module _ (v : View) (is_key : ℕ → List ℕ → Bool) (path : List (List ℕ)) (edit : PartEdit) (f w c : Value) (t u : Data) (e : EditsPart is_key v path edit f w c t u) where
   pub root_set : path ≡ [] → IsNewRoot edit u
   root_set none =
-      new_root (table_of v) is_key (slot_of v, f) [] [] w c edit u (subst (λ y. BringsPart (table_of v) (slot_of v, f) y edit w) none e.brings) (subst (λ y. Makes (table_of v) is_key edit w (slot_of v, f) y c) none e.makes) e.shown
+      new_root (table_of v) is_key (slot_of v, f) [] [] w c edit u (subst (λ y. BringsPart (table_of v) (slot_of v, f) y edit w) none e.brings) (subst (λ y. EditMakes (table_of v) is_key edit w (slot_of v, f) y c) none e.makes) e.shown
 
   module _ (s : List ℕ) (ss : List (List ℕ)) (path_is : path ≡ s ∷ ss) where
     brings : BringsPart (table_of v) (slot_of v, f) (s ∷ ss) edit w
     brings = subst (λ y. BringsPart (table_of v) (slot_of v, f) y edit w) path_is e.brings
 
-    makes : Makes (table_of v) is_key edit w (slot_of v, f) (s ∷ ss) c
-    makes = subst (λ y. Makes (table_of v) is_key edit w (slot_of v, f) y c) path_is e.makes
+    makes : EditMakes (table_of v) is_key edit w (slot_of v, f) (s ∷ ss) c
+    makes = subst (λ y. EditMakes (table_of v) is_key edit w (slot_of v, f) y c) path_is e.makes
 
     pub last_allowed : IsAllowed (table_of v) (slot_of v, f) s ss edit w
     last_allowed = allowed (table_of v) is_key (slot_of v, f) s ss w c edit brings makes

@@ -1,6 +1,6 @@
 -- What changes in the last holder of a path, of which there is a view.
 use Rattle.std.proofs.Common.{◌≡◌, ℕ, List, Some, None, sym, ◌∙◌, subst}
-use Rattle.ild_cbor.specs.Nodes.{Stands}
+use Rattle.ild_cbor.specs.Nodes.{HasData}
 use Rattle.ild_cbor.specs.declared.node.Node.{Node}
 use Rattle.ild_cbor.specs.declared.piece.Piece.{Piece}
 use Rattle.ild_data.specs.Data.{Data, null}
@@ -31,17 +31,17 @@ module _ (rows : List Row) (q : InSlot) (v : View) (view : IsPartView rows q v) 
   stands : StandsFor rows piece tree
   stands = subst (λ rs. StandsFor rs piece tree) view.table (piece_stands v q.1 view.view piece piece_is)
 
-  pub sets : (n : Node) (w : Value) → SetIs acc (StandsFor acc piece) (Stands n) slot s change → Allows rows (E.Set n) (seen rows q) s w → IsChange rows (in_last (E.Set n) w) q s (node_of (E.Set n)) change
+  pub sets : (n : Node) (w : Value) → SetIs acc (StandsFor acc piece) (HasData n) slot s change → Allows rows (E.Set n) (seen rows q) s w → IsChange rows (in_last (E.Set n) w) q s (node_of (E.Set n)) change
   sets n w all h =
-      let there : SetIs rows (StandsFor rows piece) (Stands n) q.0 s change =
-      subst (λ u. SetIs rows (StandsFor rows piece) (Stands n) u s change) (slot_is ∙ view.slot) (subst (λ rs. SetIs rs (StandsFor rs piece) (Stands n) slot s change) (acc_is ∙ view.table) all) in
+      let there : SetIs rows (StandsFor rows piece) (HasData n) q.0 s change =
+      subst (λ u. SetIs rows (StandsFor rows piece) (HasData n) u s change) (slot_is ∙ view.slot) (subst (λ rs. SetIs rs (StandsFor rs piece) (HasData n) slot s change) (acc_is ∙ view.table) all) in
       let is = there q.1 w tree h.2.tree h.0 made stands h.1 h.2.tree_is h.2.stands in
       record { some = h.2.tree; part = Some h.2.tree; part_is = h.2.stands; of_some = is; of_part = is }
 
-  pub inserts : (n : Node) (w : Value) → InsertIs acc (StandsFor acc piece) (Stands n) slot s change → Allows rows (E.Insert n) (seen rows q) s w → IsChange rows (in_last (E.Insert n) w) q s (node_of (E.Insert n)) change
+  pub inserts : (n : Node) (w : Value) → InsertIs acc (StandsFor acc piece) (HasData n) slot s change → Allows rows (E.Insert n) (seen rows q) s w → IsChange rows (in_last (E.Insert n) w) q s (node_of (E.Insert n)) change
   inserts n w all h =
-      let there : InsertIs rows (StandsFor rows piece) (Stands n) q.0 s change =
-      subst (λ u. InsertIs rows (StandsFor rows piece) (Stands n) u s change) (slot_is ∙ view.slot) (subst (λ rs. InsertIs rs (StandsFor rs piece) (Stands n) slot s change) (acc_is ∙ view.table) all) in
+      let there : InsertIs rows (StandsFor rows piece) (HasData n) q.0 s change =
+      subst (λ u. InsertIs rows (StandsFor rows piece) (HasData n) u s change) (slot_is ∙ view.slot) (subst (λ rs. InsertIs rs (StandsFor rs piece) (HasData n) slot s change) (acc_is ∙ view.table) all) in
       let is = there q.1 w tree h.2.tree h.0 made stands h.1 h.2.tree_is h.2.stands in
       record { some = h.2.tree; part = Some h.2.tree; part_is = h.2.stands; of_some = is; of_part = is }
 

@@ -15,8 +15,8 @@ use Rattle.ild_path_changes.specs.Lift.{lift_within, whole}
 use Rattle.ild_path_block.proofs.Numbering.{IsHolder, final, nth_holder, there_at}
 use Rattle.ild_path_block.specs.Changes.{IsReady, in_last}
 use Rattle.ild_path_changes.specs.LiftLaws.{edit_seen}
-use Rattle.ild_path_block.specs.Edits.{Makes, edit_of}
-use Rattle.ild_path_block.specs.Spliced.{Answers, AnswersBlock, IsHolderAt}
+use Rattle.ild_path_block.specs.Edits.{EditMakes, edit_of}
+use Rattle.ild_path_block.specs.Spliced.{SplicedAs, AnswersBlock, IsHolderAt}
 use Rattle.ild_path_block.specs.declared.answer.Spliced.{Spliced}
 use Rattle.ild_path_block.specs.declared.answer.Spliced.TheVariants as S
 use Rattle.ild_path_block.specs.declared.edit.PartEdit.{PartEdit}
@@ -58,7 +58,7 @@ whole_change (C.RemoveEntry k) x u e = absurd cc
 pub part_comes : (change : LastChange) (new : Option Node) (x u : Option Data) → is_whole change ≡ false → NewIs new x → Come change new None x u
 part_comes change new x u not h = record { part = h; holder = λ e. let wrong : true ≡ false = sym e ∙ not in absurd cc }
 
-pub block_answers : (rows : List Row) (is_key : ℕ → List ℕ → Bool) (edit : PartEdit) (w : Value) (p : InSlot) (path : List (List ℕ)) (t u : Data) (bytes : List ℕ) (r : Result (Option Spliced) SpliceErr) → spell u ≡ bytes → AnswersBlock bytes r → Answers rows is_key edit w p path t u r
+pub block_answers : (rows : List Row) (is_key : ℕ → List ℕ → Bool) (edit : PartEdit) (w : Value) (p : InSlot) (path : List (List ℕ)) (t u : Data) (bytes : List ℕ) (r : Result (Option Spliced) SpliceErr) → spell u ≡ bytes → AnswersBlock bytes r → SplicedAs rows is_key edit w p path t u r
 block_answers rows is_key edit w p path t u bytes (Ok None) e h = absurd h
 block_answers rows is_key edit w p path t u bytes (Ok (Some (S.Block b))) e h = subst (λ y. AnswersBlock y (Ok (Some (S.Block b)))) (sym e) h
 block_answers rows is_key edit w p path t u bytes (Ok (Some (S.Holder r))) e h = absurd h
@@ -85,7 +85,7 @@ module _ (rows : List Row) (is_key : ℕ → List ℕ → Bool) (edit : PartEdit
 
   -- a holder with a number
   by_number : (n : ℕ) (h : IsHolder rows p ready.first ready.others n) (d old : Data) → represented alone rows h.holder.0 (changed_in rows (in_last edit w).made h.holder h.first h.others) ≡ Some d
-      → (e : Located) → edit_seen alone rows p (edit_of edit w path) ≡ e → u ≡ applied e t → e ≡ one (all_steps (take n steps)) (replace d) → (r : Option Spliced) → IsHolderAt t (all_steps (take n steps)) old n r → Answers rows is_key edit w p path t u (Ok r)
+      → (e : Located) → edit_seen alone rows p (edit_of edit w path) ≡ e → u ≡ applied e t → e ≡ one (all_steps (take n steps)) (replace d) → (r : Option Spliced) → IsHolderAt t (all_steps (take n steps)) old n r → SplicedAs rows is_key edit w p path t u (Ok r)
   by_number n h d old now e seen is same None found = absurd found
   by_number n h d old now e seen is same (Some (S.Block b)) found = absurd found
   by_number n h d old now e seen is same (Some (S.Holder r)) found = record {
@@ -94,7 +94,7 @@ module _ (rows : List Row) (is_key : ℕ → List ℕ → Bool) (edit : PartEdit
     leads = ap (λ m. at rows p (take m path)) found.0 ∙ ap (λ y. at rows p (take n y)) ready.path_is ∙ h.leads;
     value = changed_in rows (in_last edit w).made h.holder h.first h.others;
     makes =
-        subst (λ y. Makes rows is_key edit w h.holder y (changed_in rows (in_last edit w).made h.holder h.first h.others)) (sym (ap (λ m. drop m path) found.0 ∙ ap (drop n) ready.path_is ∙ h.rest))
+        subst (λ y. EditMakes rows is_key edit w h.holder y (changed_in rows (in_last edit w).made h.holder h.first h.others)) (sym (ap (λ m. drop m path) found.0 ∙ ap (drop n) ready.path_is ∙ h.rest))
         (ready.makes h.holder h.first h.others h.same);
     new = d;
     new_is = now;
@@ -106,14 +106,14 @@ module _ (rows : List Row) (is_key : ℕ → List ℕ → Bool) (edit : PartEdit
   }
 
   -- one before the last
-  pub holder_before : (n : ℕ) → n < length steps → Told (Some n) → (old : Data) (r : Option Spliced) → IsHolderAt t (all_steps (take n steps)) old n r → Answers rows is_key edit w p path t u (Ok r)
+  pub holder_before : (n : ℕ) → n < length steps → Told (Some n) → (old : Data) (r : Option Spliced) → IsHolderAt t (all_steps (take n steps)) old n r → SplicedAs rows is_key edit w p path t u (Ok r)
   holder_before n less told old r found =
       let h = nth_holder rows (in_last edit w).made p ready.first ready.others steps n ready.lead less in
       let d = there_at steps becoming n told.there less in
       by_number n h.0 d.0 old (same_Some _ (Some d.0) (sym h.1 ∙ d.1)) _ (ready.one_change ∙ told.seen_there) told.is (exchanged_at (all_steps (take n steps)) _ d.0 (ap (option_and_then (λ w. w)) d.1)) r found
 
   -- the last
-  pub holder_last : is_whole change ≡ true → Told None → (old : Data) (r : Option Spliced) → IsHolderAt t (all_steps (take (length steps) steps)) old (length steps) r → Answers rows is_key edit w p path t u (Ok r)
+  pub holder_last : is_whole change ≡ true → Told None → (old : Data) (r : Option Spliced) → IsHolderAt t (all_steps (take (length steps) steps)) old (length steps) r → SplicedAs rows is_key edit w p path t u (Ok r)
   holder_last is told old r found =
       let all : take (length steps) steps ≡ steps = take_all (length steps) steps (omega arith) in
       let h = final rows (in_last edit w).made p ready.last ready.first ready.others steps ready.lead ready.at in
@@ -121,7 +121,7 @@ module _ (rows : List Row) (is_key : ℕ → List ℕ → Bool) (edit : PartEdit
       (ap (lift_within (all_steps steps)) (whole_change change ready.is_change.some told.made is) ∙ exchanged_at (all_steps steps) (Some told.made) told.made refl ∙ ap (λ o. one (all_steps o) (replace told.made)) (sym all)) r found
 
   -- none: the change is in the last one's item
-  pub in_last_item : (r : Result (Option Spliced) SpliceErr) → Told None → ((v : Option Data) → AnswersBlock (spell (applied (lift_within (all_steps steps) (located change ready.is_change.part v)) t)) r) → Answers rows is_key edit w p path t u r
+  pub in_last_item : (r : Result (Option Spliced) SpliceErr) → Told None → ((v : Option Data) → AnswersBlock (spell (applied (lift_within (all_steps steps) (located change ready.is_change.part v)) t)) r) → SplicedAs rows is_key edit w p path t u r
   in_last_item r told made =
       let is = ready.is_change in
       let same : located change (Some is.some) (Some told.made) ≡ located change is.part (Some told.made) =

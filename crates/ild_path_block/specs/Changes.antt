@@ -8,7 +8,7 @@ use Rattle.ild_path_last.specs.declared.change.LastChange.{LastChange}
 use Rattle.ild_path_changes.specs.LastLift.{LastEdit, deleting, inserting, last_seen, setting}
 use Rattle.ild_path_changes.specs.Lift.{lift, lifted}
 use Rattle.ild_path_changes.specs.LiftLaws.{edit_seen}
-use Rattle.ild_path_block.specs.Edits.{IsPart, Makes, edit_of}
+use Rattle.ild_path_block.specs.Edits.{IsPartItem, EditMakes, edit_of}
 use Rattle.ild_path_block.specs.declared.edit.PartEdit.{PartEdit}
 use Rattle.ild_path_block.specs.declared.edit.PartEdit.TheVariants as E
 use Rattle.ild_path_holder.specs.Along.{LeadAlong, holder_at, last_of, is_holder}
@@ -38,8 +38,8 @@ node_of E.Delete = None
 
 -- the table lets it change the part at a segment of a holder
 abbrev pub Allows : List Row → PartEdit → Holder → List ℕ → Value → Type 0
-Allows rows (E.Set n) h s w = (slot : Slot) × (slot_to_set h s ≡ Some slot) × IsPart rows slot n w
-Allows rows (E.Insert n) h s w = (slot : Slot) × (slot_to_insert h s ≡ Some slot) × IsPart rows slot n w
+Allows rows (E.Set n) h s w = (slot : Slot) × (slot_to_set h s ≡ Some slot) × IsPartItem rows slot n w
+Allows rows (E.Insert n) h s w = (slot : Slot) × (slot_to_insert h s ≡ Some slot) × IsPartItem rows slot n w
 Allows rows E.Delete h s w = refusal_to_delete h s ≡ None
 
 -- it is this change of the holder's data, whatever stands for a part that doesn't come
@@ -71,4 +71,4 @@ pub record IsReady (rows : List Row) (is_key : ℕ → List ℕ → Bool) (edit 
   pub is_change : IsChange rows (in_last edit w) last (last_of first others) new change
   pub law : (r : Option ℕ) → IsTold rows (in_last edit w) p last first others is_change.some steps change r → IsEdited rows (in_last edit w) p last first others is_change.some steps change r t u
   pub makes : (h : InSlot) (s : List ℕ) (ss : List (List ℕ)) → last_holder rows h s ss ≡ last_holder rows p first others
-      → Makes rows is_key edit w h (s ∷ ss) (changed_in rows (in_last edit w).made h s ss)
+      → EditMakes rows is_key edit w h (s ∷ ss) (changed_in rows (in_last edit w).made h s ss)

@@ -1,7 +1,7 @@
 -- An edit of the part at a path of a block that stands by itself: what it makes of the value, and the data before and after.
 use Rattle.std.specs.Prelude.{◌≡◌, ℕ, Bool, List, Some, Ok}
 use Rattle.ild_cbor.specs.Block.{IsBlockOf}
-use Rattle.ild_cbor.specs.Nodes.{IsRoot, Stands}
+use Rattle.ild_cbor.specs.Nodes.{IsRoot, HasData}
 use Rattle.ild_cbor.specs.declared.node.Node.{Node}
 use Rattle.ild_cbor.specs.declared.piece.Piece.TheVariants as P
 use Rattle.ild_data.specs.Data.{Data}
@@ -40,32 +40,32 @@ edit_of (E.Insert n) w path = ins_at path w
 edit_of E.Delete w path = del_at path
 
 -- the node is the item of w in this slot
-pub record IsPart (rows : List Row) (slot : Slot) (n : Node) (w : Value) : Type 0 where
+pub record IsPartItem (rows : List Row) (slot : Slot) (n : Node) (w : Value) : Type 0 where
   pub fits : OfType rows slot w
   pub tree : Data
   pub tree_is : represented alone rows slot w ≡ Some tree
-  pub stands : Stands n tree
+  pub stands : HasData n tree
 
 -- what an edit brings is w, of the slot to which it goes
 abbrev pub BringsPart : List Row → InSlot → List (List ℕ) → PartEdit → Value → Type 0
-BringsPart rows p path (E.Set n) w = (slot : Slot) → new_slot rows p (set_at path w) ≡ Some slot → IsPart rows slot n w
-BringsPart rows p path (E.Insert n) w = (slot : Slot) → new_slot rows p (ins_at path w) ≡ Some slot → IsPart rows slot n w
+BringsPart rows p path (E.Set n) w = (slot : Slot) → new_slot rows p (set_at path w) ≡ Some slot → IsPartItem rows slot n w
+BringsPart rows p path (E.Insert n) w = (slot : Slot) → new_slot rows p (ins_at path w) ≡ Some slot → IsPartItem rows slot n w
 BringsPart rows p path E.Delete w = Unit {0}
 
 -- the edit makes this of a value, at a path of it
-abbrev pub Makes : List Row → (ℕ → List ℕ → Bool) → PartEdit → Value → InSlot → List (List ℕ) → Value → Type 0
-Makes rows is_key edit w p path c = change rows is_key p (edit_of edit w path) ≡ Ok c
+abbrev pub EditMakes : List Row → (ℕ → List ℕ → Bool) → PartEdit → Value → InSlot → List (List ℕ) → Value → Type 0
+EditMakes rows is_key edit w p path c = change rows is_key p (edit_of edit w path) ≡ Ok c
 
 -- the edit at a path makes c of the block's value f, and u of its data t
-pub record Edits (is_key : ℕ → List ℕ → Bool) (v : View) (path : List (List ℕ)) (edit : PartEdit) (f w c : Value) (t u : Data) : Type 0 where
+pub record EditsPart (is_key : ℕ → List ℕ → Bool) (v : View) (path : List (List ℕ)) (edit : PartEdit) (f w c : Value) (t u : Data) : Type 0 where
   pub keys : TestsKeys (table_of v) is_key
   pub root : IsRootView v f t
   pub brings : BringsPart (table_of v) (slot_of v, f) path edit w
-  pub makes : Makes (table_of v) is_key edit w (slot_of v, f) path c
+  pub makes : EditMakes (table_of v) is_key edit w (slot_of v, f) path c
   pub shown : represented alone (table_of v) (slot_of v) c ≡ Some u
 
 -- the whole value is set to one with the data u
 abbrev pub IsNewRoot : PartEdit → Data → Type 0
-IsNewRoot (E.Set n) u = Stands n u
+IsNewRoot (E.Set n) u = HasData n u
 IsNewRoot (E.Insert n) u = ⊥
 IsNewRoot E.Delete u = ⊥

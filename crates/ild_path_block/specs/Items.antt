@@ -15,7 +15,7 @@ use Rattle.ild_path_last.specs.Change.{becomes}
 use Rattle.ild_schema.specs.Slots.{form_of}
 use Rattle.ild_schema.specs.Value.{Value}
 use Rattle.ild_schema.specs.declared.row.Row.{Row}
-use Rattle.ild_splice.specs.Made.{Makes}
+use Rattle.ild_splice.specs.Made.{MakesBytes}
 use Rattle.ild_splice.specs.declared.error.SpliceErr.{SpliceErr}
 use Rattle.ild_splice.specs.declared.error.SpliceErr.TheVariants.{Memory, Size}
 use Rattle.ild_typed.specs.At.{InSlot, seen}
@@ -61,9 +61,9 @@ is_refusing d = false
 
 -- the item of the data, or that it would be longer than a block may be
 abbrev pub MakesItem : Data → Result (Option (List ℕ)) SpliceErr → Type 0
-MakesItem u (Ok (Some b)) = Makes (spell u) (Ok b)
+MakesItem u (Ok (Some b)) = MakesBytes (spell u) (Ok b)
 MakesItem u (Ok None) = ⊥
-MakesItem u (Err Size) = Makes (spell u) (Err Size)
+MakesItem u (Err Size) = MakesBytes (spell u) (Err Size)
 MakesItem u (Err Memory) = Unit {0}
 
 -- that there is none

@@ -5,14 +5,14 @@ use Rattle.ild_cbor.specs.declared.node.Node.{Node}
 use Rattle.ild_data.specs.Data.{Data}
 use Rattle.ild_data.specs.Spell.{spell}
 use Rattle.ild_path_changes.specs.LiftLaws.{edit_seen}
-use Rattle.ild_path_block.specs.Edits.{Makes, edit_of}
+use Rattle.ild_path_block.specs.Edits.{EditMakes, edit_of}
 use Rattle.ild_path_block.specs.declared.answer.Replaced.{Replaced}
 use Rattle.ild_path_block.specs.declared.answer.Spliced.{Spliced}
 use Rattle.ild_path_block.specs.declared.answer.Spliced.TheVariants as S
 use Rattle.ild_path_block.specs.declared.edit.PartEdit.{PartEdit}
 use Rattle.ild_schema.specs.Value.{Value}
 use Rattle.ild_schema.specs.declared.row.Row.{Row}
-use Rattle.ild_splice.specs.Made.{Makes as MakesBlock}
+use Rattle.ild_splice.specs.Made.{MakesBytes as MakesBlock}
 use Rattle.ild_splice.specs.Splices.{IsAt}
 use Rattle.ild_splice.specs.declared.error.SpliceErr.{SpliceErr}
 use Rattle.ild_splice.specs.declared.error.SpliceErr.TheVariants.{Memory, Size}
@@ -34,7 +34,7 @@ pub record IsReplaced (rows : List Row) (is_key : ℕ → List ℕ → Bool) (ed
   pub before : r.holder < length path
   pub leads : at rows p (take r.holder path) ≡ Some holder
   pub value : Value
-  pub makes : Makes rows is_key edit w holder (drop r.holder path) value
+  pub makes : EditMakes rows is_key edit w holder (drop r.holder path) value
   pub new : Data
   pub new_is : represented alone rows holder.0 value ≡ Some new
   pub place : List TreeStep
@@ -52,12 +52,12 @@ AnswersBlock bytes (Err Size) = MakesBlock bytes (Err Size)
 AnswersBlock bytes (Err Memory) = Unit {0}
 
 -- it is that of u, or a holder's item is replaced
-abbrev pub Answers : List Row → (ℕ → List ℕ → Bool) → PartEdit → Value → InSlot → List (List ℕ) → Data → Data → Result (Option Spliced) SpliceErr → Type 0
-Answers rows is_key edit w p path t u (Ok None) = ⊥
-Answers rows is_key edit w p path t u (Ok (Some (S.Block b))) = MakesBlock (spell u) (Ok b)
-Answers rows is_key edit w p path t u (Ok (Some (S.Holder r))) = IsReplaced rows is_key edit w p path t u r
-Answers rows is_key edit w p path t u (Err Size) = MakesBlock (spell u) (Err Size)
-Answers rows is_key edit w p path t u (Err Memory) = Unit {0}
+abbrev pub SplicedAs : List Row → (ℕ → List ℕ → Bool) → PartEdit → Value → InSlot → List (List ℕ) → Data → Data → Result (Option Spliced) SpliceErr → Type 0
+SplicedAs rows is_key edit w p path t u (Ok None) = ⊥
+SplicedAs rows is_key edit w p path t u (Ok (Some (S.Block b))) = MakesBlock (spell u) (Ok b)
+SplicedAs rows is_key edit w p path t u (Ok (Some (S.Holder r))) = IsReplaced rows is_key edit w p path t u r
+SplicedAs rows is_key edit w p path t u (Err Size) = MakesBlock (spell u) (Err Size)
+SplicedAs rows is_key edit w p path t u (Err Memory) = Unit {0}
 
 -- a holder is replaced only on a path with segments
 abbrev pub IsBeneath : List (List ℕ) → Result (Option Spliced) SpliceErr → Type 0
@@ -84,7 +84,7 @@ AnswersWithin root steps change new result =
 abbrev pub AnswersReady : Node → List PartSteps → LastChange → Option Node → Result (Option Spliced) SpliceErr → Type 0
 AnswersReady root steps change new result =
     (rows : List Row) (is_key : ℕ → List ℕ → Bool) (edit : PartEdit) (w : Value) (p : InSlot) (path : List (List ℕ)) (t u : Data) → IsAt root t [] t
-    → IsReady rows is_key edit w p path steps change new t u → Answers rows is_key edit w p path t u result
+    → IsReady rows is_key edit w p path steps change new t u → SplicedAs rows is_key edit w p path t u result
 
 -- with the spelling of what a holder becomes, the block of the data that the edit makes
 abbrev pub MakesWith : Replaced → List ℕ → Result (List ℕ) SpliceErr → Type 0

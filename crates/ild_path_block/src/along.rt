@@ -3,8 +3,8 @@ ghost use Rattle.std.specs.List.{AllByRecursion};
 ghost use Rattle.std.specs.Prelude.{[], ℕ, Bool, IsUtf8, List};
 ghost use Rattle.ild_data.specs.Data.{Data};
 ghost use Rattle.ild_data.specs.Spell.{spell};
-ghost use Rattle.ild_path_block.specs.Edits.{Edits, IsNewRoot};
-ghost use Rattle.ild_path_block.specs.Spliced.{Answers, AnswersBlock, IsBeneath};
+ghost use Rattle.ild_path_block.specs.Edits.{EditsPart, IsNewRoot};
+ghost use Rattle.ild_path_block.specs.Spliced.{SplicedAs, AnswersBlock, IsBeneath};
 ghost use Rattle.ild_schema.specs.Value.{Value};
 ghost use Rattle.ild_splice.specs.Splices.{IsAt};
 ghost use Rattle.ild_view.specs.View.{slot_of, table_of};
@@ -54,8 +54,8 @@ pub fn spliced<'a>(
     path: &'a Path,
     edit: &PartEdit<'_>,
 ) -> Result<Option<Spliced<'a>>, SpliceErr>
-    ensures answers { (is_key : ℕ → List ℕ → Bool) (f w c : Value) (t u : Data) → Edits is_key root.now path.now edit.now f w c t u
-        → Answers (table_of root.now) is_key edit.now w (slot_of root.now, f) path.now t u result }
+    ensures answers { (is_key : ℕ → List ℕ → Bool) (f w c : Value) (t u : Data) → EditsPart is_key root.now path.now edit.now f w c t u
+        → SplicedAs (table_of root.now) is_key edit.now w (slot_of root.now, f) path.now t u result }
     ensures beneath { IsBeneath path.now result }
 {
     // They do no work: their clauses say what acceptance says of the table, and what an edit is in a block's data.

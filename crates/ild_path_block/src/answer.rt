@@ -4,7 +4,7 @@ ghost use Rattle.ild_splice_changes.specs.TreeChange.{part_at};
 ghost use Rattle.ild_data.specs.Data.{Data};
 ghost use Rattle.ild_path_block.specs.Spliced.{AnswersBlock, IsHolderAt, AnswersReady, AnswersWithin, IsBeneath, MakesWith};
 ghost use Rattle.ild_path_replaced.specs.Seen.{all_steps};
-ghost use Rattle.ild_splice.specs.Made.{Makes};
+ghost use Rattle.ild_splice.specs.Made.{MakesBytes};
 ghost use Rattle.ild_splice.specs.Splices.{IsAt};
 
 use ild_cbor::Node;
@@ -55,7 +55,7 @@ fn whole<'b>(root: &Node<'b>, steps: &[PartSteps<'_>], holder: usize) -> Option<
 
 /// What is made is the block.
 pub(crate) fn block<'b>(made: Result<Octets, SpliceErr>) -> Result<Option<Spliced<'b>>, SpliceErr>
-    ensures made { (bytes : List ℕ) → Makes bytes made → AnswersBlock bytes result }
+    ensures made { (bytes : List ℕ) → MakesBytes bytes made → AnswersBlock bytes result }
     ensures beneath { IsBeneath [] result }
 {
     Ok(Some(Spliced::Block(made?)))

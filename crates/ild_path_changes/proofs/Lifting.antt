@@ -32,9 +32,9 @@ use Rattle.ild_typed.specs.Segment.{put_by, put_last, at_index, set_field, field
 use Rattle.ild_path_changes.specs.Lift.{lift_within, under_mark, map_lift, struct_lift, union_lift, whole, entry_lift, pair_lift, is_beside}
 use Rattle.ild_path_changes.proofs.Datas.{each, each_pair, written_entries}
 use Rattle.ild_path_changes.specs.Places.{field_each, each_field, written, field_named, field_data, place_of, left_out, field_place, written_before}
-use Rattle.ild_schema.specs.Marks.{field_text as represented_name, text_of as mark_text, kind_of as mark_kind}
+use Rattle.ild_schema.specs.Marks.{field_text as represented_name, mark_text, mark_kind}
 use Rattle.ild_typed.specs.Fields.{entries_of, field_entries, are_absent, tuple_items}
-use Rattle.ild_typed.specs.Kinds.{kind_of}
+use Rattle.ild_typed.specs.Kinds.{kind_word_of}
 use Rattle.ild_schema.specs.DataKinds.{same_kind}
 use Rattle.ild_typed.specs.Composed.{Hamts, map_form, struct_form, member_form, marked_form, inlined}
 use Rattle.ild_schema.specs.Clear.{ClearStruct, KeysApart}
@@ -216,9 +216,9 @@ union_form_lift U.Kinded m d t n e u two tree was now all =
     let y = kinded (applied e d) n (mark_kind m.mark) now in
     sym y ∙ ap (applied e) x
   where
-    kinded : (d t : Data) (o : Option KindWord) → option_and_then (λ k. cond (same_kind k (kind_of d)) (Some d) None) o ≡ Some t → d ≡ t
+    kinded : (d t : Data) (o : Option KindWord) → option_and_then (λ k. cond (same_kind k (kind_word_of d)) (Some d) None) o ≡ Some t → d ≡ t
     kinded d t None h = absurd (none-some t h)
-    kinded d t (Some k) h = if_some (same_kind k (kind_of d)) d t h
+    kinded d t (Some k) h = if_some (same_kind k (kind_word_of d)) d t h
 union_form_lift (U.Envelope k content) m d t n e u two tree was now all =
     let x = marked (marked_form (U.Envelope k content) d) (mark_text m.mark) t was in
     let y = with_mark (marked_form (U.Envelope k content) (applied e d)) (mark_text m.mark) x.0 n x.1 now in

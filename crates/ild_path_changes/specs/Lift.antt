@@ -19,7 +19,7 @@ use Rattle.ild_schema.specs.Value.{Value}
 use Rattle.ild_splice_changes.specs.TreeChange.{TreeStep, nth, key, replace, insert_item, insert_entry, remove_item, remove_entry, Located, unchanged, one}
 use Rattle.ild_typed.specs.Strings.{pair_data}
 use Rattle.ild_schema.specs.Slots.{form_of}
-use Rattle.ild_schema.specs.Marks.{field_text as represented_name, text_of as mark_text}
+use Rattle.ild_schema.specs.Marks.{field_text as represented_name, mark_text}
 use Rattle.ild_typed.specs.Composed.{Hamts}
 use Rattle.ild_typed.specs.Represented.{represented}
 use Rattle.ild_typed.specs.Holder.{Holder, fields, member, entries, elements, any_entries, any_elements, nothing, value_of}

@@ -14,7 +14,7 @@ use Rattle.ild_path_item.proofs.Members.{union_becomes}
 use Rattle.ild_path_item.proofs.Verbs.{as_set, is_list}
 use Rattle.ild_path_item.specs.Texts.{LetsBe, with_part}
 use Rattle.ild_path_edits.proofs.KeepTyped.{IsWholeOfType, whole_is_kept}
-use Rattle.ild_path_edits.specs.Along.{IsFree, Passes}
+use Rattle.ild_path_edits.specs.Along.{IsFree, LayerPasses}
 use Rattle.ild_path_edits.specs.Table.{MayStand, never, refusal_to_delete, slot_to_set}
 use Rattle.ild_path_holder.specs.Along.{is_holder}
 use Rattle.ild_path_steps.proofs.Holding.{Held, of_any, of_elements, of_entries, of_fields, of_member, of_nothing}
@@ -95,7 +95,7 @@ map_flat MF.ListPairs es l j d made new = other (listpairs es) j (same_Some (lis
 map_flat (MF.StringPairs inner entry) es l j d made new = let x = chained (stringpairs inner entry) (as_map l) d new in text_flat _ d x.2
 map_flat (MF.Hamt shape) es l j d made new = absurd (none-some (T.text j) made)
 
-passes_by : (test : Option TypeDef → Value → Bool) (rows : List Row) (slot : Slot) (F : Option TypeDef) → form_of rows slot ≡ F → ((v : Value) → test F v ≡ false) → (k : Holder) → Passes test rows slot k
+passes_by : (test : Option TypeDef → Value → Bool) (rows : List Row) (slot : Slot) (F : Option TypeDef) → form_of rows slot ≡ F → ((v : Value) → test F v ≡ false) → (k : Holder) → LayerPasses test rows slot k
 passes_by test rows slot F e all (fields fs os) = ap (λ F. test F (value_of (fields fs os))) e ∙ all (value_of (fields fs os))
 passes_by test rows slot F e all (member ms n v) = ap (λ F. test F (value_of (member ms n v))) e ∙ all (value_of (member ms n v))
 passes_by test rows slot F e all (entries key elem paired ps) = ap (λ F. test F (value_of (entries key elem paired ps))) e ∙ all (value_of (entries key elem paired ps))
@@ -111,7 +111,7 @@ module _ (rows : List Row) (p : InSlot) (j : List ℕ) (made : represented alone
   no_any : {A : Type 0} (v : Value) → seen rows p ≡ nothing v → A
   no_any v z = let wrong : false ≡ true = sym (ap is_holder z) ∙ holds in absurd cc
 
-  no_holes : (k : Holder) → Passes is_hole rows p.0 k
+  no_holes : (k : Holder) → LayerPasses is_hole rows p.0 k
   no_holes k = passes_by is_hole rows p.0 (Some (held).type) (held).known (by (held).type (held).held) k where
     by : (d : TypeDef) → Held rows d (seen rows p) (T.text j) → (v : Value) → is_hole (Some d) v ≡ false
     by d (of_fields r os ds e z a b) = subst (λ d. (v : Value) → is_hole (Some d) v ≡ false) (sym e) (struct_whole r r.form ds j refl b)
@@ -121,7 +121,7 @@ module _ (rows : List Row) (p : InSlot) (j : List ℕ) (made : represented alone
     by d (of_any e z) = no_any _ z
     by d (of_nothing v z) = no_any v z
 
-  has_tries : (k : Holder) → Passes (is_exhausted H rows) rows p.0 k
+  has_tries : (k : Holder) → LayerPasses (is_exhausted H rows) rows p.0 k
   has_tries k = passes_by (is_exhausted H rows) rows p.0 (Some (held).type) (held).known (by (held).type (held).held) k where
     by : (d : TypeDef) → Held rows d (seen rows p) (T.text j) → (v : Value) → is_exhausted H rows (Some d) v ≡ false
     by d (of_fields r os ds e z a b) = subst (λ d. (v : Value) → is_exhausted H rows (Some d) v ≡ false) (sym e) (λ v. refl)

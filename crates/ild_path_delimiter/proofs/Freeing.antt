@@ -11,7 +11,7 @@ use Rattle.ild_path_delimiter.specs.declared.delimiter.TextEdit.TheVariants as E
 use Rattle.ild_path_item.proofs.Verbs.{as_set, is_list}
 use Rattle.ild_path_edits.proofs.LayerTesting.{set_is_judged}
 use Rattle.ild_path_edits.proofs.Typing.{Each, each_at, each_inserted, each_removed, each_without}
-use Rattle.ild_path_edits.specs.Along.{IsFree, Passes}
+use Rattle.ild_path_edits.specs.Along.{IsFree, LayerPasses}
 use Rattle.ild_path_edits.specs.Table.{MayStand, delete_part, insert_part, new_index, slot_to_insert, slot_to_set}
 use Rattle.ild_schema.specs.Slots.{form_of}
 use Rattle.ild_schema.specs.Value as V
@@ -90,7 +90,7 @@ module _ (test : Option TypeDef → Value → Bool) (rows : List Row) where
 
   -- ---- a part goes
 
-  list_deleted : (slot : Slot) (F : Option TypeDef) (vs : Values) (s : List ℕ) → form_of rows slot ≡ F → Free slot (V.list vs) → Passes test rows slot (delete_part (list_holder F vs) s) → Free slot (value_of (delete_part (list_holder F vs) s))
+  list_deleted : (slot : Slot) (F : Option TypeDef) (vs : Values) (s : List ℕ) → form_of rows slot ≡ F → Free slot (V.list vs) → LayerPasses test rows slot (delete_part (list_holder F vs) s) → Free slot (value_of (delete_part (list_holder F vs) s))
   list_deleted slot (Some (D.List elem at)) vs s e h passes =
       let xs = values_list vs in
       let old = neither (test (form_of rows slot) (V.list vs)) (option_map_or (λ u. some_value test rows u vs) (element_of (form_of rows slot)) false) h in
@@ -99,7 +99,7 @@ module _ (test : Option TypeDef → Value → Bool) (rows : List Row) where
       (slot_in (element_of (form_of rows slot)) elem _ (ap element_of e) (each_values elem _ (each_at (Free elem) (λ i xs. remove xs i) (index_of s) xs each (λ i. each_removed (Free elem) xs i each))))
   list_deleted slot F vs s e h passes = h
 
-  map_deleted : (slot : Slot) (F : Option TypeDef) (ps : Pairs) (s : List ℕ) → form_of rows slot ≡ F → Free slot (V.map ps) → Passes test rows slot (delete_part (map_holder F ps) s) → Free slot (value_of (delete_part (map_holder F ps) s))
+  map_deleted : (slot : Slot) (F : Option TypeDef) (ps : Pairs) (s : List ℕ) → form_of rows slot ≡ F → Free slot (V.map ps) → LayerPasses test rows slot (delete_part (map_holder F ps) s) → Free slot (value_of (delete_part (map_holder F ps) s))
   map_deleted slot (Some (D.Map k k_at elem at form)) ps s e h passes =
       let old = neither (test (form_of rows slot) (V.map ps)) (option_map_or (λ u. some_pair test rows u ps) (element_of (form_of rows slot)) false) h in
       let each = pairs_each elem ps (in_slot (element_of (form_of rows slot)) elem (λ u. some_pair test rows u ps) (ap element_of e) old.1) in
@@ -107,7 +107,7 @@ module _ (test : Option TypeDef → Value → Bool) (rows : List Row) where
       (slot_in (element_of (form_of rows slot)) elem _ (ap element_of e) (each_pairs elem _ (each_without (EntryFree elem) s (pairs_list ps) each)))
   map_deleted slot F ps s e h passes = h
 
-  struct_deleted : (slot : Slot) (F : Option TypeDef) (os : Optionals) (s : List ℕ) → form_of rows slot ≡ F → Free slot (V.struct os) → Passes test rows slot (delete_part (struct_holder F os) s) → Free slot (value_of (delete_part (struct_holder F os) s))
+  struct_deleted : (slot : Slot) (F : Option TypeDef) (os : Optionals) (s : List ℕ) → form_of rows slot ≡ F → Free slot (V.struct os) → LayerPasses test rows slot (delete_part (struct_holder F os) s) → Free slot (value_of (delete_part (struct_holder F os) s))
   struct_deleted slot (Some (D.Struct r)) os s e h passes =
       let old = neither (test (form_of rows slot) (V.struct os)) (some_field test rows (fields_of (form_of rows slot)) os) h in
       let new = optionals_of (set_field s None r.fields (optionals_list os)) in
@@ -119,7 +119,7 @@ module _ (test : Option TypeDef → Value → Bool) (rows : List Row) where
   union_deleted slot (Some (D.Union u)) n v s h = h
   union_deleted slot F n v s h = h
 
-  pub deleted : (slot : Slot) (v : Value) (s : List ℕ) → Free slot v → Passes test rows slot (delete_part (holder_of rows slot v) s) → Free slot (value_of (delete_part (holder_of rows slot v) s))
+  pub deleted : (slot : Slot) (v : Value) (s : List ℕ) → Free slot v → LayerPasses test rows slot (delete_part (holder_of rows slot v) s) → Free slot (value_of (delete_part (holder_of rows slot v) s))
   deleted slot (V.list vs) s h passes = list_deleted slot (form_of rows slot) vs s refl h passes
   deleted slot (V.map ps) s h passes = map_deleted slot (form_of rows slot) ps s refl h passes
   deleted slot (V.struct os) s h passes = struct_deleted slot (form_of rows slot) os s refl h passes
@@ -140,7 +140,7 @@ module _ (test : Option TypeDef → Value → Bool) (rows : List Row) where
   index_slot elem u None e = absurd (none-some u e)
   index_slot elem u (Some i) e = same_Some elem u e
 
-  list_inserted : (slot u : Slot) (F : Option TypeDef) (vs : Values) (s : List ℕ) (w : Value) → form_of rows slot ≡ F → Free slot (V.list vs) → slot_to_insert (list_holder F vs) s ≡ Some u → Free u w → Passes test rows slot (insert_part (list_holder F vs) s w)
+  list_inserted : (slot u : Slot) (F : Option TypeDef) (vs : Values) (s : List ℕ) (w : Value) → form_of rows slot ≡ F → Free slot (V.list vs) → slot_to_insert (list_holder F vs) s ≡ Some u → Free u w → LayerPasses test rows slot (insert_part (list_holder F vs) s w)
       → Free slot (value_of (insert_part (list_holder F vs) s w))
   list_inserted slot u (Some (D.List elem at)) vs s w e h place fine passes =
       let xs = values_list vs in
@@ -164,7 +164,7 @@ module _ (test : Option TypeDef → Value → Bool) (rows : List Row) where
   no_union (Some (D.Union r)) n v e = absurd cc
   no_union F n v e = absurd cc
 
-  lists_inserted : (slot u : Slot) (v : Value) (s : List ℕ) (w : Value) → is_list (holder_of rows slot v) ≡ true → Free slot v → slot_to_insert (holder_of rows slot v) s ≡ Some u → Free u w → Passes test rows slot (insert_part (holder_of rows slot v) s w)
+  lists_inserted : (slot u : Slot) (v : Value) (s : List ℕ) (w : Value) → is_list (holder_of rows slot v) ≡ true → Free slot v → slot_to_insert (holder_of rows slot v) s ≡ Some u → Free u w → LayerPasses test rows slot (insert_part (holder_of rows slot v) s w)
       → Free slot (value_of (insert_part (holder_of rows slot v) s w))
   lists_inserted slot u (V.list vs) s w e h place fine passes = list_inserted slot u (form_of rows slot) vs s w refl h place fine passes
   lists_inserted slot u (V.map ps) s w e h place fine passes = no_map (form_of rows slot) ps e
@@ -182,21 +182,21 @@ module _ (test : Option TypeDef → Value → Bool) (rows : List Row) where
 
   module _ (is_key : ℕ → List ℕ → Bool) (schema : IsSchema rows) (keys : TestsKeys rows is_key) where
     pub set_free : (p : InSlot) (s : List ℕ) (slot : Slot) (w : Value) → OfType rows p.0 p.1 → Free p.0 p.1 → slot_to_set (seen rows p) s ≡ Some slot → MayStand is_key (seen rows p) s → OfType rows slot w → Free slot w
-        → Passes test rows p.0 (set_part (seen rows p) s w) → Free p.0 (value_of (set_part (seen rows p) s w))
+        → LayerPasses test rows p.0 (set_part (seen rows p) s w) → Free p.0 (value_of (set_part (seen rows p) s w))
     set_free p s slot w is free at stands new fine passes = (set_is_judged rows is_key test schema keys p s slot w is free at stands new).1 (passes, fine)
 
     pub insert_free : (p : InSlot) (s : List ℕ) (u : Slot) (w : Value) → OfType rows p.0 p.1 → Free p.0 p.1 → slot_to_insert (seen rows p) s ≡ Some u → MayStand is_key (seen rows p) s → OfType rows u w → Free u w
-        → Passes test rows p.0 (insert_part (seen rows p) s w) → Free p.0 (value_of (insert_part (seen rows p) s w))
+        → LayerPasses test rows p.0 (insert_part (seen rows p) s w) → Free p.0 (value_of (insert_part (seen rows p) s w))
     insert_free p s u w is free at stands new fine passes = by (is_list (seen rows p)) refl where
       by : (b : Bool) → is_list (seen rows p) ≡ b → Free p.0 (value_of (insert_part (seen rows p) s w))
       by true e = lists_inserted p.0 u p.1 s w e free at fine passes
       by false e =
           let x = as_set (seen rows p) s u w e at in
-          subst (λ h. Free p.0 (value_of h)) (sym x.0) (set_free p s u w is free x.1 stands new fine (subst (Passes test rows p.0) x.0 passes))
+          subst (λ h. Free p.0 (value_of h)) (sym x.0) (set_free p s u w is free x.1 stands new fine (subst (LayerPasses test rows p.0) x.0 passes))
 
     -- each of the three
     pub edit_free : (edit : TextEdit) (p : InSlot) (s : List ℕ) (w : Value) → OfType rows p.0 p.1 → Free p.0 p.1 → CanEdit rows is_key edit (seen rows p) s w
-        → ((slot : Slot) (x : List ℕ) → represented alone rows slot w ≡ Some (T.text x) → Free slot w) → Passes test rows p.0 (in_last edit w (seen rows p) s) → Free p.0 (value_of (in_last edit w (seen rows p) s))
+        → ((slot : Slot) (x : List ℕ) → represented alone rows slot w ≡ Some (T.text x) → Free slot w) → LayerPasses test rows p.0 (in_last edit w (seen rows p) s) → Free p.0 (value_of (in_last edit w (seen rows p) s))
     edit_free (E.Set t) p s w is free can fine passes = set_free p s can.0 w is free can.1 can.2 can.3 (fine can.0 t.now can.4) passes
     edit_free (E.Insert t) p s w is free can fine passes = insert_free p s can.0 w is free can.1 can.2 can.3 (fine can.0 t.now can.4) passes
     edit_free E.Delete p s w is free can fine passes = deleted p.0 p.1 s free passes

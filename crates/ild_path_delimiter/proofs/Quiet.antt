@@ -7,7 +7,7 @@ use Rattle.ild_data.specs.Data.{Data}
 use Rattle.ild_path_changes.proofs.Lifting.{chained, opened}
 use Rattle.ild_path_delimiter.proofs.Held.{is_held}
 use Rattle.ild_path_delimiter.specs.Laws.{OnlyTextsBreak, TextsBreakNothing}
-use Rattle.ild_path_edits.specs.Along.{Passes}
+use Rattle.ild_path_edits.specs.Along.{LayerPasses}
 use Rattle.ild_path_holder.specs.Along.{is_holder}
 use Rattle.ild_path_steps.proofs.Holding.{Held, of_any, of_elements, of_entries, of_fields, of_member, of_nothing}
 use Rattle.ild_schema.specs.Slots.{form_of}
@@ -43,7 +43,7 @@ no_text : {A : Type 0} (o : Option (List ℕ)) (t : Data) → option_map T.text 
 no_text o t e none = let x = opened T.text o t e in absurd (none-some x.0 (sym none ∙ ap text_in (sym x.2)))
 
 module _ (rows : List Row) where
-  passes_by : (slot : Slot) (F : Option TypeDef) → form_of rows slot ≡ F → ((v : Value) → breaks rows F v ≡ false) → (k : Holder) → Passes (breaks rows) rows slot k
+  passes_by : (slot : Slot) (F : Option TypeDef) → form_of rows slot ≡ F → ((v : Value) → breaks rows F v ≡ false) → (k : Holder) → LayerPasses (breaks rows) rows slot k
   passes_by slot F e all (fields fs os) = ap (λ F. breaks rows F (value_of (fields fs os))) e ∙ all (value_of (fields fs os))
   passes_by slot F e all (member ms n v) = ap (λ F. breaks rows F (value_of (member ms n v))) e ∙ all (value_of (member ms n v))
   passes_by slot F e all (entries key elem paired ps) = ap (λ F. breaks rows F (value_of (entries key elem paired ps))) e ∙ all (value_of (entries key elem paired ps))
@@ -67,7 +67,7 @@ module _ (rows : List Row) where
   map_quiet k k_at elem at (MF.Hamt shape) es t made none (V.map ps) = refl
   map_quiet k k_at elem at form es t made none v = refl
 
-  pub quiet : (p : InSlot) (t : Data) (k : Holder) → represented alone rows p.0 p.1 ≡ Some t → is_holder (seen rows p) ≡ true → text_in t ≡ None → Passes (breaks rows) rows p.0 k
+  pub quiet : (p : InSlot) (t : Data) (k : Holder) → represented alone rows p.0 p.1 ≡ Some t → is_holder (seen rows p) ≡ true → text_in t ≡ None → LayerPasses (breaks rows) rows p.0 k
   quiet p t k made holds none = let h = is_held rows p t made holds in passes_by p.0 (Some h.type) h.known (by h.type h.held) k where
     by : (d : TypeDef) → Held rows d (seen rows p) t → (v : Value) → breaks rows (Some d) v ≡ false
     by d (of_fields r os ds e z a b) = subst (λ d. (v : Value) → breaks rows (Some d) v ≡ false) (sym e) (struct_quiet r r.form ds t refl b none)

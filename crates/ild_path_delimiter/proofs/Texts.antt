@@ -20,7 +20,7 @@ use Rattle.ild_schema.specs.Clear.{AreClearFields, ClearStruct}
 use Rattle.ild_schema.specs.Copies.{base}
 use Rattle.ild_schema.specs.Hex.{bytes_of_hex}
 use Rattle.ild_schema.specs.Legible.{IsLegible}
-use Rattle.ild_schema.specs.Marks.{field_text, kind_of as mark_kind, text_of}
+use Rattle.ild_schema.specs.Marks.{field_text, mark_kind, mark_text}
 use Rattle.ild_schema.specs.Slots.{form_of}
 use Rattle.ild_schema.specs.declared.def.Field.{Field}
 use Rattle.ild_schema.specs.declared.def.MapForm.{MapForm}
@@ -137,11 +137,11 @@ in_union U.Kinded t u m j made is =
     let x = chained _ (mark_kind m.mark) u made in
     let y = if_true _ (Some t) u x.2 in
     (j, ap text_in (same_Some t u y) ∙ is)
-in_union U.Keyed t u m j made is = let x = chained (marked_form U.Keyed t) (text_of m.mark) u made in in_marked U.Keyed t u x.0 j x.2 is
-in_union U.StringPrefix t u m j made is = let x = chained (marked_form U.StringPrefix t) (text_of m.mark) u made in in_marked U.StringPrefix t u x.0 j x.2 is
-in_union U.BytesPrefix t u m j made is = let x = chained (marked_form U.BytesPrefix t) (text_of m.mark) u made in in_marked U.BytesPrefix t u x.0 j x.2 is
-in_union (U.Envelope key content) t u m j made is = let x = chained (marked_form (U.Envelope key content) t) (text_of m.mark) u made in in_marked (U.Envelope key content) t u x.0 j x.2 is
-in_union (U.Inline key) t u m j made is = let x = chained (marked_form (U.Inline key) t) (text_of m.mark) u made in in_marked (U.Inline key) t u x.0 j x.2 is
+in_union U.Keyed t u m j made is = let x = chained (marked_form U.Keyed t) (mark_text m.mark) u made in in_marked U.Keyed t u x.0 j x.2 is
+in_union U.StringPrefix t u m j made is = let x = chained (marked_form U.StringPrefix t) (mark_text m.mark) u made in in_marked U.StringPrefix t u x.0 j x.2 is
+in_union U.BytesPrefix t u m j made is = let x = chained (marked_form U.BytesPrefix t) (mark_text m.mark) u made in in_marked U.BytesPrefix t u x.0 j x.2 is
+in_union (U.Envelope key content) t u m j made is = let x = chained (marked_form (U.Envelope key content) t) (mark_text m.mark) u made in in_marked (U.Envelope key content) t u x.0 j x.2 is
+in_union (U.Inline key) t u m j made is = let x = chained (marked_form (U.Inline key) t) (mark_text m.mark) u made in in_marked (U.Inline key) t u x.0 j x.2 is
 
 in_form : (form : MapForm) (k : List ℕ) (es : List (List ℕ × Data)) (t u : Data) (j : List ℕ) → map_form alone form (L.map es) ≡ Some u → value_at k es ≡ Some t → text_in u ≡ Some j → IsText t
 in_form MF.Map k es t u j made there is = other (map_data es) u j (same_Some (map_data es) u made) refl is

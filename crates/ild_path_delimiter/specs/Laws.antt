@@ -1,7 +1,7 @@
 -- Which holders can break a delimiter rule.
 use Rattle.std.specs.Prelude.{◌≡◌, ℕ, true, false, List, Some, None}
 use Rattle.ild_data.specs.Data.{Data, text}
-use Rattle.ild_path_edits.specs.Along.{Passes}
+use Rattle.ild_path_edits.specs.Along.{LayerPasses}
 use Rattle.ild_path_holder.specs.Along.{is_holder}
 use Rattle.ild_schema.specs.Legible.{IsLegible}
 use Rattle.ild_schema.specs.Value.{Value}
@@ -21,7 +21,7 @@ TextsBreakNothing = (rows : List Row) (slot : Slot) (v : Value) (s : List ℕ) �
 
 -- a holder whose data are no text has no delimiter rule, whatever becomes of it
 abbrev pub OnlyTextsBreak : Type 0
-OnlyTextsBreak = (rows : List Row) (p : InSlot) (t : Data) (k : Holder) → represented alone rows p.0 p.1 ≡ Some t → is_holder (seen rows p) ≡ true → text_in t ≡ None → Passes (breaks rows) rows p.0 k
+OnlyTextsBreak = (rows : List Row) (p : InSlot) (t : Data) (k : Holder) → represented alone rows p.0 p.1 ≡ Some t → is_holder (seen rows p) ≡ true → text_in t ≡ None → LayerPasses (breaks rows) rows p.0 k
 
 -- a holder in a holder whose data are a text is a text too
 abbrev pub TextsOfTexts : Type 0

@@ -3,15 +3,15 @@ use Rattle.std.proofs.Common.{◌≡◌, ◌<◌, ◌≤◌, ◌+◌, ◌-◌, �
 use Rattle.std.specs.List.{AllByRecursion}
 use Rattle.std.specs.Prelude.{Err, IsUtf8, Ok, Result, slice_get}
 use Rattle.ild_cbor.specs.Block.{IsBlockOf}
-use Rattle.ild_cbor.specs.Nodes.{IsRoot, Stands}
+use Rattle.ild_cbor.specs.Nodes.{IsRoot, HasData}
 use Rattle.ild_cbor.specs.declared.node.Node.{Node}
 use Rattle.ild_data.specs.Data.{Data}
 use Rattle.ild_data.specs.Spell.{spell}
 use Rattle.ild_data.specs.Tree.{IsTree}
 use Rattle.ild_path_block.specs.Changes.{Allows}
-use Rattle.ild_path_block.specs.Edits.{BringsPart, Edits, Makes}
+use Rattle.ild_path_block.specs.Edits.{BringsPart, EditsPart, EditMakes}
 use Rattle.ild_path_block.specs.Items.{becoming}
-use Rattle.ild_path_block.specs.Spliced.{Answers, IsReplaced}
+use Rattle.ild_path_block.specs.Spliced.{SplicedAs, IsReplaced}
 use Rattle.ild_path_block.specs.declared.answer.Replaced.{Replaced}
 use Rattle.ild_path_block.specs.declared.edit.PartEdit.{PartEdit}
 use Rattle.ild_path_edit.proofs.Numbering.{at_next, known_at, one, rest_of, segment_there, two}
@@ -21,7 +21,7 @@ use Rattle.ild_path_edit.specs.Holders.{AreHolders, IsMade, PartIs}
 use Rattle.ild_path_edit.specs.inside.Items.{ChangesHolder, SetsPart}
 use Rattle.ild_path_holder.proofs.Written.{has_part}
 use Rattle.ild_path_holder.specs.Along.{is_holder}
-use Rattle.ild_splice.specs.Made.{Makes as MakesOf}
+use Rattle.ild_splice.specs.Made.{MakesBytes as MakesOf}
 use Rattle.ild_splice.specs.declared.error.SpliceErr.{SpliceErr}
 use Rattle.ild_splice.specs.declared.error.SpliceErr.TheVariants.{Memory, Size}
 use Rattle.ild_schema.specs.Value.{Value}
@@ -72,7 +72,7 @@ module _ (rows : List Row) (is_key : ℕ → List ℕ → Bool) (schema : IsSche
   pub last_made : (k : ℕ) (d : Data) → suc k ≡ length path → Made k d → Last rows edit w p path k d
   last_made k d end m =
       let x = one path k end in
-      let y = at_last rows is_key schema keys edit w m.holder m.typed m.old m.was x.0 m.value d (subst (λ ys. BringsPart rows m.holder ys edit w) x.1 m.brings) (subst (λ ys. Makes rows is_key edit w m.holder ys m.value) x.1 m.makes) m.shown in
+      let y = at_last rows is_key schema keys edit w m.holder m.typed m.old m.was x.0 m.value d (subst (λ ys. BringsPart rows m.holder ys edit w) x.1 m.brings) (subst (λ ys. EditMakes rows is_key edit w m.holder ys m.value) x.1 m.makes) m.shown in
       record { holder = m.holder; leads = m.leads; segment = x.0; there = segment_there path k x.0 [] x.1; holds = y.0; allows = y.1; becomes = y.2 }
 
   pub made_above : (k : ℕ) (d : Data) → suc k < length path → Made k d → Above rows is_key edit w p path k d
@@ -80,7 +80,7 @@ module _ (rows : List Row) (is_key : ℕ → List ℕ → Bool) (schema : IsSche
       let x = two path k less in
       let n : Next rows is_key schema keys edit w m.holder m.typed m.old m.was x.first x.second x.rest d =
       to_next rows is_key schema keys edit w m.holder m.typed m.old m.was x.first x.second x.rest m.value d (subst (λ ys. AllByRecursion IsUtf8 ys) x.is (texts_from path k texts)) (subst (λ ys. BringsPart rows m.holder ys edit w) x.is m.brings)
-      (subst (λ ys. Makes rows is_key edit w m.holder ys m.value) x.is m.makes) m.shown in
+      (subst (λ ys. EditMakes rows is_key edit w m.holder ys m.value) x.is m.makes) m.shown in
       let rest : drop (suc k) path ≡ x.second ∷ x.rest = rest_of path k x.first (x.second ∷ x.rest) x.is in
       record {
         holder = m.holder;
@@ -102,7 +102,7 @@ module _ (rows : List Row) (is_key : ℕ → List ℕ → Bool) (schema : IsSche
           was = (part_made rows is_key schema keys m.holder n.next x.first m.old m.typed n.there m.was).1;
           brings = subst (λ ys. BringsPart rows n.next ys edit w) (sym rest) n.brings;
           value = n.value;
-          makes = subst (λ ys. Makes rows is_key edit w n.next ys n.value) (sym rest) n.makes;
+          makes = subst (λ ys. EditMakes rows is_key edit w n.next ys n.value) (sym rest) n.makes;
           shown = n.becomes.shown;
         };
       }
@@ -134,7 +134,7 @@ module _ (rows : List Row) (is_key : ℕ → List ℕ → Bool) (schema : IsSche
         clause rows a.holder a.slot a.segment a.value a.tree d (views k a.holder m.before a.leads) a.there a.holds a.is it.0
 
 -- a holder that is replaced is made so
-pub replaced_made : (v : View) (is_key : ℕ → List ℕ → Bool) (path : List (List ℕ)) (edit : PartEdit) (f w c : Value) (t u : Data) → IsSchema (table_of v) → Edits is_key v path edit f w c t u → (r : Replaced)
+pub replaced_made : (v : View) (is_key : ℕ → List ℕ → Bool) (path : List (List ℕ)) (edit : PartEdit) (f w c : Value) (t u : Data) → IsSchema (table_of v) → EditsPart is_key v path edit f w c t u → (r : Replaced)
     → (held : IsReplaced (table_of v) is_key edit w (slot_of v, f) path t u r) → IsMade (table_of v) is_key edit w (slot_of v, f) path r.holder held.new
 replaced_made v is_key path edit f w c t u schema e r held =
     let known = known_at (table_of v) is_key schema e.keys edit w path r.holder (slot_of v, f) held.holder held.before held.leads (record { typed = (e.root.room, e.root.front.fits); old = t; was = e.root.front.tree; brings = e.brings }) in
@@ -147,7 +147,7 @@ pub failed : (xs ys : List ℕ) (e : SpliceErr) → length xs ≤ length ys → 
 failed xs ys Size le h = omega (arith, le, h)
 failed xs ys Memory le h = tt
 
-pub answer_failed : (rows : List Row) (is_key : ℕ → List ℕ → Bool) (edit : PartEdit) (w : Value) (p : InSlot) (path : List (List ℕ)) (t u : Data) (e : SpliceErr) → Answers rows is_key edit w p path t u (Err e) → MakesBlock (spell u) (Err e)
+pub answer_failed : (rows : List Row) (is_key : ℕ → List ℕ → Bool) (edit : PartEdit) (w : Value) (p : InSlot) (path : List (List ℕ)) (t u : Data) (e : SpliceErr) → SplicedAs rows is_key edit w p path t u (Err e) → MakesBlock (spell u) (Err e)
 answer_failed rows is_key edit w p path t u Size h = h
 answer_failed rows is_key edit w p path t u Memory h = tt
 
@@ -166,5 +166,5 @@ replaced_short place t old new u there is =
     omega (arith, long, length-append front (spell new ++ behind), length-append (spell new) behind)
 
 -- the one item of a block
-pub item_stands : (b : List ℕ) (n : Node) (d x : Data) → IsBlockOf b d → IsRoot n b d → b ≡ spell x → IsTree x → Stands n x
-item_stands b n d x block root e tree = subst (Stands n) (one_within d x block.within tree (sym block.spelled ∙ e)) root.stands
+pub item_stands : (b : List ℕ) (n : Node) (d x : Data) → IsBlockOf b d → IsRoot n b d → b ≡ spell x → IsTree x → HasData n x
+item_stands b n d x block root e tree = subst (HasData n) (one_within d x block.within tree (sym block.spelled ∙ e)) root.stands

@@ -8,7 +8,7 @@ use Rattle.ild_data.specs.Data.{Data}
 use Rattle.ild_data.specs.Spell.{spell}
 use Rattle.ild_path_block.proofs.Allowing.{IsAllowed, allowed, makes_rest}
 use Rattle.ild_path_block.specs.Changes.{Allows, in_last}
-use Rattle.ild_path_block.specs.Edits.{BringsPart, Makes}
+use Rattle.ild_path_block.specs.Edits.{BringsPart, EditMakes}
 use Rattle.ild_path_block.specs.Items.{becoming}
 use Rattle.ild_path_block.specs.declared.edit.PartEdit.{PartEdit}
 use Rattle.ild_path_block.specs.declared.edit.PartEdit.TheVariants as E
@@ -82,7 +82,7 @@ module _ (rows : List Row) (is_key : ℕ → List ℕ → Bool) (schema : IsSche
 
   module _ (edit : PartEdit) (w : Value) where
     -- what an edit makes is of the type
-    pub made_typed : (p : InSlot) (path : List (List ℕ)) (c : Value) (e : PartEdit) → AllByRecursion IsUtf8 path → BringsPart rows p path e w → Of p.0 p.1 → Makes rows is_key e w p path c → Of p.0 c
+    pub made_typed : (p : InSlot) (path : List (List ℕ)) (c : Value) (e : PartEdit) → AllByRecursion IsUtf8 path → BringsPart rows p path e w → Of p.0 p.1 → EditMakes rows is_key e w p path c → Of p.0 c
     made_typed p path c (E.Set n) texts brings is makes = edits_keep_types rows is_key schema keys p (set_at path w) c texts (λ slot new. (brings slot new).fits) is makes
     made_typed p path c (E.Insert n) texts brings is makes = edits_keep_types rows is_key schema keys p (ins_at path w) c texts (λ slot new. (brings slot new).fits) is makes
     made_typed p path c E.Delete texts brings is makes = edits_keep_types rows is_key schema keys p (del_at path) c texts tt is makes
@@ -93,13 +93,13 @@ module _ (rows : List Row) (is_key : ℕ → List ℕ → Bool) (schema : IsSche
         pub there : part (seen rows p) s ≡ Some next
         pub brings : BringsPart rows next (t ∷ ss) edit w
         pub value : Value
-        pub makes : Makes rows is_key edit w next (t ∷ ss) value
+        pub makes : EditMakes rows is_key edit w next (t ∷ ss) value
         pub tree : Data
         pub becomes : PartIs rows p s next.0 value tree d
         pub shorter : length (spell tree) ≤ length (spell d)
 
       -- the holder at the next segment
-      pub to_next : (s t : List ℕ) (ss : List (List ℕ)) (c : Value) (d : Data) → AllByRecursion IsUtf8 (s ∷ t ∷ ss) → BringsPart rows p (s ∷ t ∷ ss) edit w → Makes rows is_key edit w p (s ∷ t ∷ ss) c → Rep p.0 c d → Next s t ss d
+      pub to_next : (s t : List ℕ) (ss : List (List ℕ)) (c : Value) (d : Data) → AllByRecursion IsUtf8 (s ∷ t ∷ ss) → BringsPart rows p (s ∷ t ∷ ss) edit w → EditMakes rows is_key edit w p (s ∷ t ∷ ss) c → Rep p.0 c d → Next s t ss d
       to_next s t ss c d texts brings makes shown =
           let ok : IsAllowed rows p s (t ∷ ss) edit w = allowed rows is_key p s (t ∷ ss) w c edit brings makes in
           let x = chained (λ q. holder_at rows q t ss) (part (seen rows p) s) ok.last ok.at in
@@ -107,7 +107,7 @@ module _ (rows : List Row) (is_key : ℕ → List ℕ → Bool) (schema : IsSche
           let f : Holder → List ℕ → Holder = (in_last edit w).made in
           let v : Value = changed_in rows f q t ss in
           let it : Of q.0 q.1 = kept.parts p q s is x.1 in
-          let below : Makes rows is_key edit w q (t ∷ ss) v = makes_rest rows is_key p s (t ∷ ss) w c edit makes q t ss (sym (last_from rows p q s t ss x.1)) in
+          let below : EditMakes rows is_key edit w q (t ∷ ss) v = makes_rest rows is_key p s (t ∷ ss) w c edit makes q t ss (sym (last_from rows p q s t ss x.1)) in
           let new : Of q.0 v = made_typed q (t ∷ ss) v edit texts.1 (brings_from rows p q s t ss edit w x.1 brings) it below in
           let slot : slot_to_set (seen rows p) s ≡ Some q.0 = kept.slots p q s is x.1 in
           let same : c ≡ changed_in rows f p s (t ∷ ss) = ok_same c (changed_in rows f p s (t ∷ ss)) _ makes (makes_rest rows is_key p s (t ∷ ss) w c edit makes p s (t ∷ ss) refl) in
@@ -129,7 +129,7 @@ module _ (rows : List Row) (is_key : ℕ → List ℕ → Bool) (schema : IsSche
           }
 
       -- at the last segment
-      pub at_last : (s : List ℕ) (c : Value) (d : Data) → BringsPart rows p (s ∷ []) edit w → Makes rows is_key edit w p (s ∷ []) c → Rep p.0 c d → (is_holder (seen rows p) ≡ true) × Allows rows edit (seen rows p) s w × (becoming rows edit w p s ≡ Some d)
+      pub at_last : (s : List ℕ) (c : Value) (d : Data) → BringsPart rows p (s ∷ []) edit w → EditMakes rows is_key edit w p (s ∷ []) c → Rep p.0 c d → (is_holder (seen rows p) ≡ true) × Allows rows edit (seen rows p) s w × (becoming rows edit w p s ≡ Some d)
       at_last s c d brings makes shown =
           let ok : IsAllowed rows p s [] edit w = allowed rows is_key p s [] w c edit brings makes in
           let same : ok.last ≡ p = sym (same_Some p ok.last ok.at) in

@@ -2,7 +2,7 @@
 use Rattle.std.specs.Prelude.{◌≡◌, ◌<◌, ℕ, Bool, IsSomeAnd, List, Some, drop, length, slice_get, take}
 use Rattle.ild_data.specs.Data.{Data}
 use Rattle.ild_data.specs.Tree.{IsTree}
-use Rattle.ild_path_block.specs.Edits.{BringsPart, Makes}
+use Rattle.ild_path_block.specs.Edits.{BringsPart, EditMakes}
 use Rattle.ild_path_block.specs.declared.edit.PartEdit.{PartEdit}
 use Rattle.ild_path_edits.specs.Table.{slot_to_set}
 use Rattle.ild_schema.specs.Value.{Value}
@@ -31,7 +31,7 @@ pub record IsMade (rows : List Row) (is_key : ℕ → List ℕ → Bool) (edit :
   pub was : represented alone rows holder.0 holder.1 ≡ Some old
   pub brings : BringsPart rows holder (drop n path) edit w
   pub value : Value
-  pub makes : Makes rows is_key edit w holder (drop n path) value
+  pub makes : EditMakes rows is_key edit w holder (drop n path) value
   pub shown : represented alone rows holder.0 value ≡ Some d
 
 -- the part at a segment of a holder becomes the value c of its slot, with the data x, and so the holder what has the data d

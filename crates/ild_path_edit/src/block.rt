@@ -4,7 +4,7 @@ ghost use Rattle.ild_path_edit.specs.inside.Items.{MakesWhole};
 ghost use Rattle.ild_path_edit.specs.Made.{MakesBlock};
 ghost use Rattle.ild_data.specs.Data.{Data};
 ghost use Rattle.ild_data.specs.Spell.{spell};
-ghost use Rattle.ild_path_block.specs.Edits.{Edits};
+ghost use Rattle.ild_path_block.specs.Edits.{EditsPart};
 ghost use Rattle.ild_schema.specs.Value.{Value};
 
 use crate::item::item_at;
@@ -40,7 +40,7 @@ pub fn block_of_edit<'a>(
     path: &'a Path,
     edit: &PartEdit<'_>,
 ) -> Result<Octets, SpliceErr>
-    ensures { (is_key : ℕ → List ℕ → Bool) (f w c : Value) (t u : Data) → Edits is_key root.now path.now edit.now f w c t u → MakesBlock (spell u) result }
+    ensures { (is_key : ℕ → List ℕ → Bool) (f w c : Value) (t u : Data) → EditsPart is_key root.now path.now edit.now f w c t u → MakesBlock (spell u) result }
 {
     match spliced(alloc, root, path, edit)? {
         Some(Spliced::Block(block)) => Ok(block),

@@ -26,7 +26,7 @@ use Rattle.ild_typed.specs.Layer as L
 use Rattle.ild_typed.specs.Layer.{Layer}
 use Rattle.ild_schema.specs.Slots.{form_of, plainly}
 use Rattle.ild_typed.specs.Levels.{levels_of, map_levels, struct_levels}
-use Rattle.ild_typed.specs.Layers.{layer_of, IsNotNull, Shows, FieldsFit, EntriesFit, LayerFits}
+use Rattle.ild_typed.specs.Layers.{layer_of, IsNotNull, RepresentsSome, FieldsFit, EntriesFit, LayerFits}
 use Rattle.ild_typed.specs.Fits.{FormFits, ValueFits, FitsPast, Fits}
 use Rattle.ild_typed.proofs.Rooms.{layer_more, fits_more}
 use Rattle.ild_typed.specs.Holder.{member, list_holder, map_holder, struct_holder, union_holder, holder_of, value_of, is_paired, of_any}
@@ -308,7 +308,7 @@ module _ (rows : List Row) (is_key : ℕ → List ℕ → Bool) (schema : IsSche
       let all : EntriesFit (Left i slot) rows k.0 k.2 k.4 (pairs_list ps) = k.6 in
       let f = a.form ∙ ap Some k.5 in
       let x = with_slot k.2 (value_at s (pairs_list ps)) q (ap (λ g. part (map_holder g ps) s) (sym f) ∙ e) in
-      let t = each_found (λ p. IsUtf8 p.0 × Shows (Left i slot) rows (plainly k.0) (D.text p.0) × Left i slot k.2 p.1) s x.0 (pairs_list ps) all.1 x.1 in
+      let t = each_found (λ p. IsUtf8 p.0 × RepresentsSome (Left i slot) rows (plainly k.0) (D.text p.0) × Left i slot k.2 p.1) s x.0 (pairs_list ps) all.1 x.1 in
       subst (λ (r : InSlot). Left i slot r.0 r.1) x.2 t.2
   parts_of i slot (struct os) s q h e =
       let a = room_of rows i slot (struct os) (L.struct (optionals_list os)) refl h in
@@ -342,7 +342,7 @@ module _ (rows : List Row) (is_key : ℕ → List ℕ → Bool) (schema : IsSche
   entry_set : (i : ℕ) (slot : Slot) (key : TypeNo) (val : Slot) (f : MapForm) (ps : List (List ℕ × Value)) (s : List ℕ) (u c : Value) → EntriesFit (Left i slot) rows key val f ps → value_at s ps ≡ Some u → Left i slot val c
       → EntriesFit (Left i slot) rows key val f (put_by (is_paired f) s c ps)
   entry_set i slot key val f ps s u c h e new =
-      let P = λ (p : List ℕ × Value). IsUtf8 p.0 × Shows (Left i slot) rows (plainly key) (D.text p.0) × Left i slot val p.1 in
+      let P = λ (p : List ℕ × Value). IsUtf8 p.0 × RepresentsSome (Left i slot) rows (plainly key) (D.text p.0) × Left i slot val p.1 in
       let t = each_found P s u ps h.1 e in
       (ordered_keys f (put_by (is_paired f) s c ps) (in_order_put (is_paired f) s c ps (keys_ordered f ps h.0)), each_by P (is_paired f) s c ps h.1 (t.0, t.1, new))
 

@@ -21,7 +21,7 @@ use Rattle.ild_typed.specs.OfType.{OfType, TestsKeys}
 use Rattle.ild_typed.specs.Schema.{IsSchema}
 use Rattle.ild_value_meaning.proofs.ByParts.{ByParts, AreByParts, EntriesByParts, FieldsByParts}
 use Rattle.ild_value_meaning.proofs.TypedByParts.{to_parts}
-use Rattle.ild_path_edits.specs.Along.{IsFree, Passes}
+use Rattle.ild_path_edits.specs.Along.{IsFree, LayerPasses}
 use Rattle.ild_path_edits.specs.AlongLaws.{JudgedAlong, SetIsJudged}
 use Rattle.ild_path_edits.proofs.Judging.{judged_by_tests}
 use Rattle.ild_path_edits.proofs.KeepTyped.{of_type_is_kept}
@@ -61,18 +61,18 @@ module _ (rows : List Row) (is_key : ℕ → List ℕ → Bool) (test : Option T
   Of slot v = ByParts rows is_key slot v
 
   abbrev pub Good : Slot → Value → Type 0
-  Good slot v = IsGood rows (Unit {0}) (λ i s. i) (λ i s h. Passes test rows s h) tt slot v
+  Good slot v = IsGood rows (Unit {0}) (λ i s. i) (λ i s h. LayerPasses test rows s h) tt slot v
 
   abbrev Goods : Slot → Values → Type 0
-  Goods slot vs = AllGood rows (Unit {0}) (λ i s. i) (λ i s h. Passes test rows s h) tt slot vs
+  Goods slot vs = AllGood rows (Unit {0}) (λ i s. i) (λ i s h. LayerPasses test rows s h) tt slot vs
 
   abbrev GoodPairs : Slot → Pairs → Type 0
-  GoodPairs slot ps = EntriesGood rows (Unit {0}) (λ i s. i) (λ i s h. Passes test rows s h) tt slot ps
+  GoodPairs slot ps = EntriesGood rows (Unit {0}) (λ i s. i) (λ i s h. LayerPasses test rows s h) tt slot ps
 
   abbrev GoodFields : List Field → Optionals → Type 0
-  GoodFields fs os = FieldsGood rows (Unit {0}) (λ i s. i) (λ i s h. Passes test rows s h) tt fs os
+  GoodFields fs os = FieldsGood rows (Unit {0}) (λ i s. i) (λ i s h. LayerPasses test rows s h) tt fs os
 
-  data_passes : (slot : Slot) (d : Data) → Passes test rows slot (any_holder d)
+  data_passes : (slot : Slot) (d : Data) → LayerPasses test rows slot (any_holder d)
   data_passes slot D.null = tt
   data_passes slot (D.boolean b) = tt
   data_passes slot (D.integer n) = tt
@@ -105,23 +105,23 @@ module _ (rows : List Row) (is_key : ℕ → List ℕ → Bool) (test : Option T
     free_good (link s) slot t h = tt
     free_good (list vs) slot t h =
         let x = neither (test (form_of rows slot) (list vs)) (option_map_or (λ u. some_value test rows u vs) (element_of (form_of rows slot)) false) h in (
-          subst (λ f. Passes test rows slot (list_holder f vs)) (sym t.2) (ap (λ ws. test (form_of rows slot) (list ws)) (values_back vs) ∙ x.0),
+          subst (λ f. LayerPasses test rows slot (list_holder f vs)) (sym t.2) (ap (λ ws. test (form_of rows slot) (list ws)) (values_back vs) ∙ x.0),
           subst (λ f. IfSome (element_of f) (λ u. Goods u vs)) (sym t.2) (frees_good vs t.0 t.3 (in_slot (element_of (form_of rows slot)) t.0 (λ u. some_value test rows u vs) (ap element_of t.2) x.1)),
         )
     free_good (map ps) slot t h =
         let x = neither (test (form_of rows slot) (map ps)) (option_map_or (λ u. some_pair test rows u ps) (element_of (form_of rows slot)) false) h in (
-          subst (λ f. Passes test rows slot (map_holder f ps)) (sym t.5) (ap (λ ws. test (form_of rows slot) (map ws)) (pairs_back ps) ∙ x.0),
+          subst (λ f. LayerPasses test rows slot (map_holder f ps)) (sym t.5) (ap (λ ws. test (form_of rows slot) (map ws)) (pairs_back ps) ∙ x.0),
           subst (λ f. IfSome (element_of f) (λ u. GoodPairs u ps)) (sym t.5) (free_pairs ps (t.0).0 t.2 t.6 (in_slot (element_of (form_of rows slot)) t.2 (λ u. some_pair test rows u ps) (ap element_of t.5) x.1)),
         )
     free_good (struct os) slot t h =
         let x = neither (test (form_of rows slot) (struct os)) (some_field test rows (fields_of (form_of rows slot)) os) h in (
-          subst (λ f. Passes test rows slot (struct_holder f os)) (sym t.1) (ap (λ ws. test (form_of rows slot) (struct ws)) (optionals_back os) ∙ x.0),
+          subst (λ f. LayerPasses test rows slot (struct_holder f os)) (sym t.1) (ap (λ ws. test (form_of rows slot) (struct ws)) (optionals_back os) ∙ x.0),
           subst (λ f. GoodFields (fields_of f) os) (sym t.1) (free_fields os (t.0).fields t.2 (ap (λ f. some_field test rows (fields_of f) os) (sym t.1) ∙ x.1)),
         )
     free_good (union n v) slot t h =
         let x = neither (test (form_of rows slot) (union n v)) (option_map_or (λ u. some_layer test rows u v) (member_of (form_of rows slot) n) false) h in
         let at = member_slot (form_of rows slot) t.0 n t.1 t.2 t.3 in (
-          subst (λ f. Passes test rows slot (union_holder f n v)) (sym t.2) x.0,
+          subst (λ f. LayerPasses test rows slot (union_holder f n v)) (sym t.2) x.0,
           subst (λ o. IfSome o (λ u. Good u v)) (sym at) (free_good v (plainly (t.1).ty) t.4 (in_slot (member_of (form_of rows slot) n) (plainly (t.1).ty) (λ u. some_layer test rows u v) at x.1)),
         )
     free_good (enum n) slot t h = tt
@@ -153,22 +153,22 @@ module _ (rows : List Row) (is_key : ℕ → List ℕ → Bool) (test : Option T
     good_free (bytes s) slot t h = refl
     good_free (link s) slot t h = refl
     good_free (list vs) slot t h =
-        let own : test (form_of rows slot) (list (values_of (values_list vs))) ≡ false = subst (λ f. Passes test rows slot (list_holder f vs)) t.2 h.0 in
+        let own : test (form_of rows slot) (list (values_of (values_list vs))) ≡ false = subst (λ f. LayerPasses test rows slot (list_holder f vs)) t.2 h.0 in
         let parts : Goods t.0 vs = subst (λ f. IfSome (element_of f) (λ u. Goods u vs)) t.2 h.1 in
         both_false (test (form_of rows slot) (list vs)) (option_map_or (λ u. some_value test rows u vs) (element_of (form_of rows slot)) false)
         (ap (λ ws. test (form_of rows slot) (list ws)) (sym (values_back vs)) ∙ own) (slot_in (element_of (form_of rows slot)) t.0 (λ u. some_value test rows u vs) (ap element_of t.2) (goods_free vs t.0 t.3 parts))
     good_free (map ps) slot t h =
-        let own : test (form_of rows slot) (map (pairs_of (pairs_list ps))) ≡ false = subst (λ f. Passes test rows slot (map_holder f ps)) t.5 h.0 in
+        let own : test (form_of rows slot) (map (pairs_of (pairs_list ps))) ≡ false = subst (λ f. LayerPasses test rows slot (map_holder f ps)) t.5 h.0 in
         let parts : GoodPairs t.2 ps = subst (λ f. IfSome (element_of f) (λ u. GoodPairs u ps)) t.5 h.1 in
         both_false (test (form_of rows slot) (map ps)) (option_map_or (λ u. some_pair test rows u ps) (element_of (form_of rows slot)) false)
         (ap (λ ws. test (form_of rows slot) (map ws)) (sym (pairs_back ps)) ∙ own) (slot_in (element_of (form_of rows slot)) t.2 (λ u. some_pair test rows u ps) (ap element_of t.5) (pairs_free ps (t.0).0 t.2 t.6 parts))
     good_free (struct os) slot t h =
-        let own : test (form_of rows slot) (struct (optionals_of (optionals_list os))) ≡ false = subst (λ f. Passes test rows slot (struct_holder f os)) t.1 h.0 in
+        let own : test (form_of rows slot) (struct (optionals_of (optionals_list os))) ≡ false = subst (λ f. LayerPasses test rows slot (struct_holder f os)) t.1 h.0 in
         let parts : GoodFields (t.0).fields os = subst (λ f. GoodFields (fields_of f) os) t.1 h.1 in
         both_false (test (form_of rows slot) (struct os)) (some_field test rows (fields_of (form_of rows slot)) os)
         (ap (λ ws. test (form_of rows slot) (struct ws)) (sym (optionals_back os)) ∙ own) (ap (λ f. some_field test rows (fields_of f) os) t.1 ∙ fields_free os (t.0).fields t.2 parts)
     good_free (union n v) slot t h =
-        let own : test (form_of rows slot) (union n v) ≡ false = subst (λ f. Passes test rows slot (union_holder f n v)) t.2 h.0 in
+        let own : test (form_of rows slot) (union n v) ≡ false = subst (λ f. LayerPasses test rows slot (union_holder f n v)) t.2 h.0 in
         let at = member_slot (form_of rows slot) t.0 n t.1 t.2 t.3 in
         let part : Good (plainly (t.1).ty) v = subst (λ o. IfSome o (λ u. Good u v)) at h.1 in
         both_false (test (form_of rows slot) (union n v)) (option_map_or (λ u. some_layer test rows u v) (member_of (form_of rows slot) n) false) own
@@ -200,9 +200,9 @@ module _ (rows : List Row) (is_key : ℕ → List ℕ → Bool) (test : Option T
   to_free : (slot : Slot) (v : Value) → OfType rows slot v → Good rows is_key test slot v → IsFree test rows slot v
   to_free slot v is h = good_free rows is_key test v slot (to_parts rows is_key keys v slot is) h
 
-  pub free_is_layered : IsLayered rows (λ slot v. OfType rows slot v) (Unit {0}) (λ i p s. i) (λ i slot v. IsFree test rows slot v) (λ i slot h. Passes test rows slot h)
+  pub free_is_layered : IsLayered rows (λ slot v. OfType rows slot v) (Unit {0}) (λ i p s. i) (λ i slot v. IsFree test rows slot v) (λ i slot h. LayerPasses test rows slot h)
   free_is_layered =
-      let g = good_is_layered rows is_key schema (Unit {0}) (λ i s. i) (λ i s h. Passes test rows s h) (λ i slot d e s h there. inside_good rows is_key test e) keys in
+      let g = good_is_layered rows is_key schema (Unit {0}) (λ i s. i) (λ i s h. LayerPasses test rows s h) (λ i slot d e s h there. inside_good rows is_key test e) keys in
       let kept = of_type_is_kept rows is_key schema keys in
       record {
         own = λ i p is h. g.own i p is (to_good p.0 p.1 is h);
@@ -214,12 +214,12 @@ module _ (rows : List Row) (is_key : ℕ → List ℕ → Bool) (test : Option T
 
 pub judged_along : JudgedAlong
 judged_along rows is_key test schema keys f l typed p s ss is free last =
-    judged_by_tests rows is_key (λ slot v. OfType rows slot v) (of_type_is_kept rows is_key schema keys) (Unit {0}) (λ i p s. i) (λ i slot v. IsFree test rows slot v) (λ i slot h. Passes test rows slot h)
+    judged_by_tests rows is_key (λ slot v. OfType rows slot v) (of_type_is_kept rows is_key schema keys) (Unit {0}) (λ i p s. i) (λ i slot v. IsFree test rows slot v) (λ i slot h. LayerPasses test rows slot h)
     (free_is_layered rows is_key test schema keys) f l typed tt p s ss is free last
 
 pub set_is_judged : SetIsJudged
 set_is_judged rows is_key test schema keys p s slot w is free allowed stands new =
-    let g = good_where_set rows is_key schema (Unit {0}) (λ i s. i) (λ i s h. Passes test rows s h) (λ i slot d e s h there. inside_good rows is_key test e) keys
+    let g = good_where_set rows is_key schema (Unit {0}) (λ i s. i) (λ i s h. LayerPasses test rows s h) (λ i slot d e s h there. inside_good rows is_key test e) keys
     tt p s slot w is (to_good rows is_key test schema keys p.0 p.1 is free) allowed stands new in
     let whole = (of_type_is_kept rows is_key schema keys).set p s slot w is allowed stands new in (
       λ h. let x = g.0 (to_good rows is_key test schema keys p.0 _ whole h) in (x.0, to_free rows is_key test schema keys slot w new x.1),

@@ -31,7 +31,7 @@ use Rattle.ild_typed.specs.Hamt.{alone, a_map}
 use Rattle.ild_typed.specs.Represented.{represented, layered}
 use Rattle.ild_typed.specs.Levels.{levels_of}
 use Rattle.ild_typed.specs.Fits.{FormFits, ValueFits, FitsPast, Fits, Front}
-use Rattle.ild_typed.specs.Layers.{layer_of, Shows, FieldsFit, EntriesFit, MapFits, LayerFits}
+use Rattle.ild_typed.specs.Layers.{layer_of, RepresentsSome, FieldsFit, EntriesFit, MapFits, LayerFits}
 use Rattle.ild_typed.specs.OfType.{OfType}
 use Rattle.ild_typed.specs.Refused.{Refusal, Refused}
 use Rattle.ild_typed.specs.Schema.{IsSchema}
@@ -65,7 +65,7 @@ le_told m n = record { is = nat_le m n; says = λ b. ((λ e. grind (arith, nat_t
 -- ---- tests of layers
 
 module _ (rows : List Row) (P : Slot → Value → Type 0) (below : (s : Slot) (v : Value) → Told (OfType rows s v) (P s v))
-    (keys : (key : TypeNo) (k : List ℕ) → Told (IsUtf8 k × Shows (OfType rows) rows (plainly key) (T.text k)) (Shows P rows (plainly key) (T.text k))) where
+    (keys : (key : TypeNo) (k : List ℕ) → Told (IsUtf8 k × RepresentsSome (OfType rows) rows (plainly key) (T.text k)) (RepresentsSome P rows (plainly key) (T.text k))) where
   fields_told : (fs : List Field) (os : List (Option Value)) → Told (FieldsFit (OfType rows) fs os) (FieldsFit P fs os)
   fields_told [] [] = all_told tt
   fields_told [] (o ∷ os) = none_told (λ b h. absurd h)
@@ -74,7 +74,7 @@ module _ (rows : List Row) (P : Slot → Value → Type 0) (below : (s : Slot) (
   fields_told (f ∷ fs) (None ∷ os) = both_told (true_told f.optional) (fields_told fs os)
 
   abbrev EntryFits : (Slot → Value → Type 0) → TypeNo → Slot → List ℕ × Value → Type 0
-  EntryFits Fit key value p = IsUtf8 p.0 × Shows Fit rows (plainly key) (T.text p.0) × Fit value p.1
+  EntryFits Fit key value p = IsUtf8 p.0 × RepresentsSome Fit rows (plainly key) (T.text p.0) × Fit value p.1
 
   entry_told : (key : TypeNo) (value : Slot) (p : List ℕ × Value) → Told (EntryFits (OfType rows) key value p) (EntryFits P key value p)
   entry_told key value p =
@@ -129,7 +129,7 @@ module _ (rows : List Row) (P : Slot → Value → Type 0) (below : (s : Slot) (
 
 no_form : (rows : List Row) (m : ℕ) (P : ℕ → Slot → Value → Type 0) (s : Slot) (v : Value) (l : Layer Value) → layer_of v ≡ Some l → as_hamt l ≡ None
     → (below : (over : ℕ) (t : Slot) (w : Value) → Told (OfType rows t w) (P over t w))
-    → (keys : (over : ℕ) (key : TypeNo) (k : List ℕ) → Told (IsUtf8 k × Shows (OfType rows) rows (plainly key) (T.text k)) (Shows (P over) rows (plainly key) (T.text k)))
+    → (keys : (over : ℕ) (key : TypeNo) (k : List ℕ) → Told (IsUtf8 k × RepresentsSome (OfType rows) rows (plainly key) (T.text k)) (RepresentsSome (P over) rows (plainly key) (T.text k)))
     → (o : Option TypeDef) → form_of rows s ≡ o → Told (OfType rows s v) (IsSomeAnd o (FormFits rows m P v))
 no_form rows m P s v l is plain below keys None e = none_told (λ b h. absurd h)
 no_form rows m P s v l is plain below keys (Some d) e =
@@ -146,7 +146,7 @@ no_form rows m P s v l is plain below keys (Some d) e =
     back h = (h.0, subst (λ o. IsSomeAnd o (LayerFits (P (levels_of d v - 1)) rows d)) is h.1)
 
 module _ (rows : List Row) (m : ℕ) (P : ℕ → Slot → Value → Type 0) (below : (over : ℕ) (t : Slot) (w : Value) → Told (OfType rows t w) (P over t w))
-    (keys : (over : ℕ) (key : TypeNo) (k : List ℕ) → Told (IsUtf8 k × Shows (OfType rows) rows (plainly key) (T.text k)) (Shows (P over) rows (plainly key) (T.text k)))
+    (keys : (over : ℕ) (key : TypeNo) (k : List ℕ) → Told (IsUtf8 k × RepresentsSome (OfType rows) rows (plainly key) (T.text k)) (RepresentsSome (P over) rows (plainly key) (T.text k)))
     (hamts : (s : Slot) (d : Data) → Told (OfType rows s (V.hamt d)) (ValueFits rows m P s (V.hamt d))) where
   form_told : (s : Slot) (v : Value) (l : Layer Value) → layer_of v ≡ Some l → as_hamt l ≡ None → Told (OfType rows s v) (IsSomeAnd (form_of rows s) (FormFits rows m P v))
   form_told s v l is plain = no_form rows m P s v l is plain below keys (form_of rows s) refl
@@ -170,24 +170,24 @@ module _ (rows : List Row) (m : ℕ) (P : ℕ → Slot → Value → Type 0) (be
 -- ---- tests of data, by the walk
 
 module _ (rows : List Row) (schema : IsSchema rows) where
-  walk_told : (room : ℕ) (s : Slot) → s.ty.0 < length rows → (t : Data) → IsTree t → Told (IsSafe rows s) (Shows (Fits rows room) rows s t)
+  walk_told : (room : ℕ) (s : Slot) → s.ty.0 < length rows → (t : Data) → IsTree t → Told (IsSafe rows s) (RepresentsSome (Fits rows room) rows s t)
   walk_told room s low t tree = by (table_walk rows schema room s low t tree)
     where
-      by : ((f : Value) × Front rows room s f t) ⊎ ((r : Refusal) × Refused rows room s t r) → Told (IsSafe rows s) (Shows (Fits rows room) rows s t)
+      by : ((f : Value) × Front rows room s f t) ⊎ ((r : Refusal) × Refused rows room s t r) → Told (IsSafe rows s) (RepresentsSome (Fits rows room) rows s t)
       by (inl (f, front)) = all_told (f, front.fits, front.tree)
       by (inr (r, refused)) =
           none_told (λ safe h. refused_sound rows (legible rows schema.accepted).clear (legible rows schema.accepted).delims room 0 s safe t r refused h)
 
-  past_told : (room over : ℕ) (s : Slot) → s.ty.0 < length rows → (t : Data) → IsTree t → Told (IsSafe rows s) (Shows (FitsPast rows room over) rows s t)
+  past_told : (room over : ℕ) (s : Slot) → s.ty.0 < length rows → (t : Data) → IsTree t → Told (IsSafe rows s) (RepresentsSome (FitsPast rows room over) rows s t)
   unfolding FitsPast
   past_told room zero s low t tree = walk_told room s low t tree
   past_told zero (suc over) s low t tree = none_told (λ safe h. absurd h.1)
   past_told (suc room) (suc over) s low t tree = past_told room over s low t tree
 
-  key_told : (room over : ℕ) (key : TypeNo) (k : List ℕ) → Told (IsUtf8 k × Shows (OfType rows) rows (plainly key) (T.text k)) (Shows (FitsPast rows room over) rows (plainly key) (T.text k))
+  key_told : (room over : ℕ) (key : TypeNo) (k : List ℕ) → Told (IsUtf8 k × RepresentsSome (OfType rows) rows (plainly key) (T.text k)) (RepresentsSome (FitsPast rows room over) rows (plainly key) (T.text k))
   key_told room over key k = by (is_utf8 k) (slice_get rows key.0) refl refl
     where
-      by : (u : Bool) (o : Option Row) → is_utf8 k ≡ u → slice_get rows key.0 ≡ o → Told (IsUtf8 k × Shows (OfType rows) rows (plainly key) (T.text k)) (Shows (FitsPast rows room over) rows (plainly key) (T.text k))
+      by : (u : Bool) (o : Option Row) → is_utf8 k ≡ u → slice_get rows key.0 ≡ o → Told (IsUtf8 k × RepresentsSome (OfType rows) rows (plainly key) (T.text k)) (RepresentsSome (FitsPast rows room over) rows (plainly key) (T.text k))
       by false o e at = none_told (λ b h. false_true (sym e ∙ is_utf8-from_IsUtf8 k b.0))
       by true None e at = none_told (λ b h. no_fit rows key (outside rows key.0 (length rows) at) ((b.1).1).0 (b.1).0 ((b.1).1).1)
       by true (Some r) e at =
@@ -222,7 +222,7 @@ module _ (rows : List Row) (schema : IsSchema rows) where
   root_told : (room over : ℕ) (s : Slot) (d : Data) → Told (OfType rows s (V.hamt d)) (FitsPast rows room over s (V.hamt d))
   root_told room over s d = by (tree_told d) (slice_get rows s.ty.0) refl
     where
-      one : (b : OfType rows s (V.hamt d)) → Shows (FitsPast rows room over) rows s d → FitsPast rows room over s (V.hamt d)
+      one : (b : OfType rows s (V.hamt d)) → RepresentsSome (FitsPast rows room over) rows s d → FitsPast rows room over s (V.hamt d)
       one b h =
           let x = hamt_is s d b in
           let same : h.0 ≡ V.hamt d = one_value alone alone_exact rows (legible rows schema.accepted).clear s x.safe h.0 (V.hamt d) d h.2 x.tree in

@@ -12,7 +12,7 @@ use Rattle.ild_typed.specs.At.{InSlot, seen, at, reached, or_enter, last_holder}
 use Rattle.ild_typed.specs.Holder.{Holder}
 use Rattle.ild_typed.specs.Segment.{part}
 use Rattle.ild_path_edits.specs.Edit.{set_at, ins_at, del_at, placed, set_in, ins_in, unless_kept, del_in}
-use Rattle.ild_path_edits.specs.Stop.{stopped, part_at, reach_at, StopsTell, may_delete, fault_by, PathFaults}
+use Rattle.ild_path_edits.specs.Stop.{stopped, part_along, reach_at, StopsTell, may_delete, fault_by, PathFaults}
 use Rattle.ild_path_edits.specs.Table.{slot_to_set, slot_to_insert, key_fits, refusal_to_delete}
 
 next : (k n : ℕ) → suc k + n ≡ k + suc n
@@ -21,12 +21,12 @@ next k n = omega (arith)
 left_is : (k n : ℕ) → k ≡ (k + n) - n
 left_is k n = omega (arith)
 
-at_step : (rows : List Row) (p : InSlot) (s : List ℕ) (ss : List (List ℕ)) (o : Option InSlot) → ((q : InSlot) → at rows q ss ≡ part_at (stopped rows q ss).part (stopped rows q ss).left)
-    → option_and_then (λ q. at rows q ss) o ≡ part_at (option_map_or (λ q. stopped rows q ss) o (record { part = p; left = s ∷ ss })).part (option_map_or (λ q. stopped rows q ss) o (record { part = p; left = s ∷ ss })).left
+at_step : (rows : List Row) (p : InSlot) (s : List ℕ) (ss : List (List ℕ)) (o : Option InSlot) → ((q : InSlot) → at rows q ss ≡ part_along (stopped rows q ss).part (stopped rows q ss).left)
+    → option_and_then (λ q. at rows q ss) o ≡ part_along (option_map_or (λ q. stopped rows q ss) o (record { part = p; left = s ∷ ss })).part (option_map_or (λ q. stopped rows q ss) o (record { part = p; left = s ∷ ss })).left
 at_step rows p s ss None rest = refl
 at_step rows p s ss (Some q) rest = rest q
 
-at_stops : (rows : List Row) (path : List (List ℕ)) (p : InSlot) → at rows p path ≡ part_at (stopped rows p path).part (stopped rows p path).left
+at_stops : (rows : List Row) (path : List (List ℕ)) (p : InSlot) → at rows p path ≡ part_along (stopped rows p path).part (stopped rows p path).left
 at_stops rows [] p = refl
 at_stops rows (s ∷ ss) p = at_step rows p s ss (part (seen rows p) s) (λ q. at_stops rows ss q)
 

@@ -38,15 +38,15 @@ abbrev pub IsFree : (Option TypeDef → Value → Bool) → List Row → Slot �
 IsFree test rows slot v = some_layer test rows slot v ≡ false
 
 -- one holder doesn't: data inside an Any, and what has no parts, are not tested
-abbrev pub Passes : (Option TypeDef → Value → Bool) → List Row → Slot → Holder → Type 0
-Passes test rows slot (any_entries ms) = Unit {0}
-Passes test rows slot (any_elements ds) = Unit {0}
-Passes test rows slot (nothing v) = Unit {0}
-Passes test rows slot h = test (form_of rows slot) (value_of h) ≡ false
+abbrev pub LayerPasses : (Option TypeDef → Value → Bool) → List Row → Slot → Holder → Type 0
+LayerPasses test rows slot (any_entries ms) = Unit {0}
+LayerPasses test rows slot (any_elements ds) = Unit {0}
+LayerPasses test rows slot (nothing v) = Unit {0}
+LayerPasses test rows slot h = test (form_of rows slot) (value_of h) ≡ false
 
 -- the same along a path: no enclosing form meets the test, and the last holder, as f changes it, is free of it
 abbrev pub IsFreeAlong : (Option TypeDef → Value → Bool) → List Row → (Holder → List ℕ → Holder) → InSlot → List ℕ → List (List ℕ) → Type 0
-IsFreeAlong test rows f p s ss = Tests rows (Unit {0}) (λ i p s. i) (λ i slot v. IsFree test rows slot v) (λ i slot h. Passes test rows slot h) f tt p s ss
+IsFreeAlong test rows f p s ss = Tests rows (Unit {0}) (λ i p s. i) (λ i slot v. IsFree test rows slot v) (λ i slot h. LayerPasses test rows slot h) f tt p s ss
 
 -- ---- the levels that are left
 

@@ -13,7 +13,7 @@ use Rattle.ild_typed.specs.Segment.{set_part}
 use Rattle.ild_typed.specs.At.{InSlot, seen, last_holder, changed_in}
 use Rattle.ild_typed.specs.OfType.{OfType, TestsKeys}
 use Rattle.ild_typed.specs.Schema.{IsSchema}
-use Rattle.ild_path_edits.specs.Along.{IsFree, Passes, IsFreeAlong, FitsAlong, IsFirst}
+use Rattle.ild_path_edits.specs.Along.{IsFree, LayerPasses, IsFreeAlong, FitsAlong, IsFirst}
 use Rattle.ild_path_edits.specs.Table.{slot_to_set, MayStand}
 
 -- a changed value meets a test nowhere exactly where it doesn't along the path
@@ -28,7 +28,7 @@ abbrev pub SetIsJudged : Type 0
 SetIsJudged = (rows : List Row) (is_key : ℕ → List ℕ → Bool) (test : Option TypeDef → Value → Bool) → IsSchema rows → TestsKeys rows is_key
     → (p : InSlot) (s : List ℕ) (slot : Slot) (w : Value) → OfType rows p.0 p.1 → IsFree test rows p.0 p.1
     → slot_to_set (seen rows p) s ≡ Some slot → MayStand is_key (seen rows p) s → OfType rows slot w
-    → IsFree test rows p.0 (value_of (set_part (seen rows p) s w)) ↔ (Passes test rows p.0 (set_part (seen rows p) s w) × IsFree test rows slot w)
+    → IsFree test rows p.0 (value_of (set_part (seen rows p) s w)) ↔ (LayerPasses test rows p.0 (set_part (seen rows p) s w) × IsFree test rows slot w)
 
 -- a changed value fits in a room exactly where it does along the path
 abbrev pub DepthAlong : Type 0

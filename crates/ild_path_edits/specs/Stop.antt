@@ -20,9 +20,9 @@ abbrev pub stopped : List Row → InSlot → List (List ℕ) → Stop
 stopped rows p [] = record { part = p; left = [] }
 stopped rows p (s ∷ ss) = option_map_or (λ q. stopped rows q ss) (part (seen rows p) s) (record { part = p; left = s ∷ ss })
 
-abbrev pub part_at : InSlot → List (List ℕ) → Option InSlot
-part_at p [] = Some p
-part_at p (s ∷ ss) = None
+abbrev pub part_along : InSlot → List (List ℕ) → Option InSlot
+part_along p [] = Some p
+part_along p (s ∷ ss) = None
 
 -- of so many segments in all, this part was reached with these left
 abbrev pub reach_at : ℕ → InSlot → List (List ℕ) → Reach
@@ -31,7 +31,7 @@ reach_at count p (s ∷ ss) = or_enter (count - length (s ∷ ss)) p.0 p.1
 
 abbrev pub StopsTell : Type 0
 StopsTell = (rows : List Row) (k : ℕ) (p : InSlot) (path : List (List ℕ))
-    → (at rows p path ≡ part_at (stopped rows p path).part (stopped rows p path).left)
+    → (at rows p path ≡ part_along (stopped rows p path).part (stopped rows p path).left)
     × (reached rows k p path ≡ reach_at (k + length path) (stopped rows p path).part (stopped rows p path).left)
 
 -- ---- an edit without a place

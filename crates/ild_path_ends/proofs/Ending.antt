@@ -30,7 +30,7 @@ use Rattle.ild_open_held.specs.Held.{IsHeld}
 use Rattle.ild_path_edits.specs.Edit.{change, ins_at, new_slot, path_of, set_at}
 use Rattle.ild_path_edits.specs.EditLaws.{Brings}
 use Rattle.ild_path_edits.proofs.KeepTyped.{edits_keep_types}
-use Rattle.ild_path_block.specs.Edits.{BringsPart, Edits, IsPart, edit_of}
+use Rattle.ild_path_block.specs.Edits.{BringsPart, EditsPart, IsPartItem, edit_of}
 use Rattle.ild_path_block.specs.declared.edit.PartEdit.{PartEdit}
 use Rattle.ild_path_block.specs.declared.edit.PartEdit.TheVariants as E
 use Rattle.ild_path_within.specs.Within.{moved, with_part, with_result}
@@ -213,7 +213,7 @@ module _ (h : List ℕ → List ℕ) (is_key : ℕ → List ℕ → Bool) (was :
           ap (change Rows is_key (front_in h Rows q)) (sym front_edit)
           ∙ edits_of_fronts h Rows is_key level.schema level.keys q (edit_of edit w path) New texts_of brings_typed typed_q inside_of changed.is
 
-      part_of : (slot : Slot) (n : Node) → IsPartHeld h Rows was slot n w → IsPart Rows slot n (front h Rows slot w)
+      part_of : (slot : Slot) (n : Node) → IsPartHeld h Rows was slot n w → IsPartItem Rows slot n (front h Rows slot w)
       part_of slot n y =
           let z = fronts_are_fronts h Rows level.schema y.room slot w y.tree y.safe y.held.fits y.held.tree in
           record { fits = (y.room, z.fits); tree = y.tree; tree_is = z.tree; stands = y.stands }
@@ -223,13 +223,13 @@ module _ (h : List ℕ → List ℕ) (is_key : ℕ → List ℕ → Bool) (was :
         by : (e : PartEdit) → BringsHeld h Rows was q path e w → BringsPart Rows (front_in h Rows q) path e (part_front h Rows (new_slot Rows q (edit_of e w path)) w)
         by (E.Set n) b = λ slot new.
             let e = sym (set_of_front Rows is_key level.schema level.keys h q path (part_front h Rows (new_slot Rows q (set_at path w)) w) w typed_q inside) ∙ new in
-            subst (λ o. IsPart Rows slot n (part_front h Rows o w)) (sym e) (part_of slot n (b slot e))
+            subst (λ o. IsPartItem Rows slot n (part_front h Rows o w)) (sym e) (part_of slot n (b slot e))
         by (E.Insert n) b = λ slot new.
             let e = sym (ins_of_front Rows is_key level.schema level.keys h q path (part_front h Rows (new_slot Rows q (ins_at path w)) w) w typed_q inside) ∙ new in
-            subst (λ o. IsPart Rows slot n (part_front h Rows o w)) (sym e) (part_of slot n (b slot e))
+            subst (λ o. IsPartItem Rows slot n (part_front h Rows o w)) (sym e) (part_of slot n (b slot e))
         by E.Delete b = tt
 
-      pub edits : (view : View) → IsInner h Rows q held_q.0 view → Edits is_key view path edit (front h Rows q.0 q.1) NewPart (front h Rows q.0 New) held_q.0 Own.0
+      pub edits : (view : View) → IsInner h Rows q held_q.0 view → EditsPart is_key view path edit (front h Rows q.0 q.1) NewPart (front h Rows q.0 New) held_q.0 Own.0
       edits view is = record {
         keys = subst (λ r. TestsKeys r is_key) (sym is.table) level.keys;
         root = is.root;

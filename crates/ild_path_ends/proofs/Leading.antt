@@ -3,7 +3,7 @@ use Rattle.std.proofs.Common.{◌≡◌, ⊎_elim, ℕ, List, [], ◌∷◌, ◌
 use Rattle.std.specs.Prelude.{IfSome}
 use Rattle.std.proofs.Math.Logic.{∥∥₁_elim}
 use Rattle.std.proofs.Props.{props}
-use Rattle.ild_cbor.specs.Nodes.{Stands}
+use Rattle.ild_cbor.specs.Nodes.{HasData}
 use Rattle.ild_cbor.specs.declared.node.Node.{Node}
 use Rattle.ild_data.specs.Data.{Data}
 use Rattle.ild_path_block.proofs.Allowing.{view_of}
@@ -42,7 +42,7 @@ module _ (root : View) (hops : List Hop) (path : List (List ℕ)) (view : View) 
       ⊎_elim (λ none. subst (λ (v : View). ∥ LeadsToHamt v path ∥₁) (sym (top none)) (leads_root root hops path none x))
       (λ z. let own = entry z.0 z.1 z.2 in leads_entry z.1.entry path view own.table own.slot (viewed z.1.entry view own) (x.inner z.0 z.1 z.2)) (none_or_last hops)
 
-pub entry_room : (rows : List Row) (s : Slot) (room : ℕ) (node : Node) (e : Entry) → ((d : Data) → Stands node d → IsEntry rows s room d e) → room_in e ≡ room
+pub entry_room : (rows : List Row) (s : Slot) (room : ℕ) (node : Node) (e : Entry) → ((d : Data) → HasData node d → IsEntry rows s room d e) → room_in e ≡ room
 entry_room rows s room node e says = ∥∥₁_elim node.stands (hlevel props) (λ st. (says st.of st.spells).room_is)
 
 pub room_of : (o : Option Entry) (e : Entry) (n : ℕ) → o ≡ Some e → IfSome o (λ x. room_in x ≡ n) → room_in e ≡ n

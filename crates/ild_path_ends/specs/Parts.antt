@@ -1,6 +1,6 @@
 -- What an edit through HAMTs brings, and that it makes of the value.
 use Rattle.std.specs.Prelude.{◌≡◌, ℕ, Bool, List, [], ◌∷◌, Some, Ok}
-use Rattle.ild_cbor.specs.Nodes.{Stands}
+use Rattle.ild_cbor.specs.Nodes.{HasData}
 use Rattle.ild_cbor.specs.declared.node.Node.{Node}
 use Rattle.ild_data.specs.Data.{Data}
 use Rattle.ild_edges.specs.Store.{block_at}
@@ -24,7 +24,7 @@ pub record IsPartHeld (h : List ℕ → List ℕ) (rows : List Row) (was : List 
   pub room : ℕ
   pub tree : Data
   pub held : IsHeld (block_at was) h rows room slot tree w
-  pub stands : Stands n tree
+  pub stands : HasData n tree
 
 -- the part that an edit brings to its slot
 abbrev pub BringsHeld : (List ℕ → List ℕ) → List Row → List (List ℕ) → InSlot → List (List ℕ) → PartEdit → Value → Type 0

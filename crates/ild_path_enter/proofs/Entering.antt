@@ -4,7 +4,7 @@ use Rattle.std.specs.Prelude.{Result, Ok, Err, option_and_then, option_map}
 use Rattle.std.specs.FinMap.{find}
 use Rattle.std.specs.Option.{option_map_or}
 use Rattle.std.proofs.lemmas.Option.{same_Some}
-use Rattle.ild_cbor.specs.Nodes.{Stands}
+use Rattle.ild_cbor.specs.Nodes.{HasData}
 use Rattle.ild_cbor.specs.declared.node.Node.{Node}
 use Rattle.ild_data.specs.ByteOrder.{IsInOrder, bytewise}
 use Rattle.ild_data.specs.Data.{Data}
@@ -114,7 +114,7 @@ module _ (h : List ℕ → List ℕ) (rows : List Row) (is_key : ℕ → List �
       let x = held_parts (block_at was) h rows is_key can.schema can.keys (room + 5) (s, map ps) (elem, w) t (k ∷ []) can.held (ap (option_and_then (λ q. at rows q [])) (part_there rows s elem ps can.hamt k w e)) in
       (x.0, subst (λ n. IsHeld (block_at was) h rows n elem x.0 w) (room_there k w e) x.1)
 
-  found_by : (o : Option Value) (q : Option Data) (n : Node) → IsValueOf h rows elem o q → ValueIs q (Some n) → (w : Value) × (d : Data) × (o ≡ Some w) × Stands n d × (represented (whole h) rows elem w ≡ Some d)
+  found_by : (o : Option Value) (q : Option Data) (n : Node) → IsValueOf h rows elem o q → ValueIs q (Some n) → (w : Value) × (d : Data) × (o ≡ Some w) × HasData n d × (represented (whole h) rows elem w ≡ Some d)
   found_by None None n is stands = absurd stands
   found_by (Some w) (Some d) n is stands = (w, d, refl, stands, is)
   found_by None (Some d) n is stands = absurd is
@@ -126,7 +126,7 @@ module _ (h : List ℕ → List ℕ) (rows : List Row) (is_key : ℕ → List �
   missing_by (Some w) (Some d) is none = absurd none
 
   -- what a search found stands for the value there, which is held
-  pub found_value : (k : List ℕ) (n : Node) → ValueIs (find bytewise k es) (Some n) → (w : Value) × (d : Data) × (value_at k (pairs_list ps) ≡ Some w) × Stands n d × IsHeld (block_at was) h rows room elem d w
+  pub found_value : (k : List ℕ) (n : Node) → ValueIs (find bytewise k es) (Some n) → (w : Value) × (d : Data) × (value_at k (pairs_list ps) ≡ Some w) × HasData n d × IsHeld (block_at was) h rows room elem d w
   found_value k n is =
       let x = found_by (value_at k (pairs_list ps)) (find bytewise k es) n (can.trie.found k) is in
       let y = value_held k x.0 x.2 in
@@ -165,7 +165,7 @@ module _ (h : List ℕ → List ℕ) (rows : List Row) (is_key : ℕ → List �
     no_entry d w safe has (F.Clash id kept new) is = absurd is
 
     pub no_value : (root : NodeView) (trail : Trail) (node : Node) (e : HamtFault) → is_safe rows elem ≡ true → m.blocks ≡ Some was → (x : RootHas root) → Descends h Own k x.0 m (Ok trail) n
-        → (IsTrailOf h Own k x.0 es trail → ValueIs (find bytewise k es) (Some node)) → ((d : Data) → Stands node d → EntryAnswer rows elem room d (Err e)) → EntersHamt h Own rows was elem room t ps es k m (Err e) n
+        → (IsTrailOf h Own k x.0 es trail → ValueIs (find bytewise k es) (Some node)) → ((d : Data) → HasData node d → EntryAnswer rows elem room d (Err e)) → EntersHamt h Own rows was elem room t ps es k m (Err e) n
     no_value root trail node e safe told x d search says =
         let y = trie_of root (Ok trail) told x d in
         let v = found_value k node (search y.trail) in
@@ -175,7 +175,7 @@ module _ (h : List ℕ → List ℕ) (rows : List Row) (is_key : ℕ → List �
     all_roots slots trail root is ss other = subst (λ zs. IsTrailOf h Own k zs es trail) (one_root Own slots ss t root other) is
 
     pub has_value : (root : NodeView) (trail : Trail) (node : Node) (e : Entry) (r : Entered) → r.trail ≡ trail → r.entry ≡ Some e → m.blocks ≡ Some was → (x : RootHas root) → Descends h Own k x.0 m (Ok trail) n
-        → (IsTrailOf h Own k x.0 es trail → ValueIs (find bytewise k es) (Some node)) → ((d : Data) → Stands node d → IsEntry rows elem room d e) → EntersHamt h Own rows was elem room t ps es k m (Ok r) n
+        → (IsTrailOf h Own k x.0 es trail → ValueIs (find bytewise k es) (Some node)) → ((d : Data) → HasData node d → IsEntry rows elem room d e) → EntersHamt h Own rows was elem room t ps es k m (Ok r) n
     has_value root trail node e r same there told x d search says =
         let y = trie_of root (Ok trail) told x d in
         let v = found_value k node (search y.trail) in

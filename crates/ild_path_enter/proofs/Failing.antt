@@ -4,7 +4,7 @@ use Rattle.std.specs.Option.{ForSome}
 use Rattle.std.proofs.lemmas.Option.{none-some, same_Some}
 use Rattle.std.proofs.Math.Logic.{∥∥₁_elim}
 use Rattle.std.proofs.Props.{props}
-use Rattle.ild_cbor.specs.Nodes.{Stands}
+use Rattle.ild_cbor.specs.Nodes.{HasData}
 use Rattle.ild_cbor.specs.declared.node.Node.{Node}
 use Rattle.ild_data.specs.Data.{Data}
 use Rattle.ild_data.specs.Trie.{TrieSlot}
@@ -46,7 +46,7 @@ trail_fails h p k slots m n e d = by e d.answer where
   by (F.Clash id kept new) a = tt
 
 -- the item of an entry asks nothing of the store
-pub entry_fails : (rows : List Row) (s : Slot) (room : ℕ) (node : Node) (m n : Moment) (e : HamtFault) → ((d : Data) → Stands node d → EntryAnswer rows s room d (Err e)) → FailsOnly {A = Entered} m (Err e) n
+pub entry_fails : (rows : List Row) (s : Slot) (room : ℕ) (node : Node) (m n : Moment) (e : HamtFault) → ((d : Data) → HasData node d → EntryAnswer rows s room d (Err e)) → FailsOnly {A = Entered} m (Err e) n
 entry_fails rows s room node m n F.Store says = ∥∥₁_elim node.stands (hlevel props) (λ s. absurd (says s.of s.spells))
 entry_fails rows s room node m n F.Memory says = tt
 entry_fails rows s room node m n (F.Block id why) says = tt
@@ -55,10 +55,10 @@ entry_fails rows s room node m n F.NoKey says = tt
 entry_fails rows s room node m n F.Size says = tt
 entry_fails rows s room node m n (F.Clash id kept new) says = tt
 
-pub entry_table : (rows : List Row) (s : Slot) (room : ℕ) (node : Node) (e : Entry) → ((d : Data) → Stands node d → IsEntry rows s room d e) → table_in e ≡ rows
+pub entry_table : (rows : List Row) (s : Slot) (room : ℕ) (node : Node) (e : Entry) → ((d : Data) → HasData node d → IsEntry rows s room d e) → table_in e ≡ rows
 entry_table rows s room node e says = ∥∥₁_elim node.stands (hlevel props) (λ st. (says st.of st.spells).table)
 
-pub entry_room : (rows : List Row) (s : Slot) (room : ℕ) (node : Node) (e : Entry) → ((d : Data) → Stands node d → IsEntry rows s room d e) → room_in e ≡ room
+pub entry_room : (rows : List Row) (s : Slot) (room : ℕ) (node : Node) (e : Entry) → ((d : Data) → HasData node d → IsEntry rows s room d e) → room_in e ≡ room
 entry_room rows s room node e says = ∥∥₁_elim node.stands (hlevel props) (λ st. (says st.of st.spells).room_is)
 
 pub some_room : (room : ℕ) (o : Option Entry) (e : Entry) → o ≡ Some e → room_in e ≡ room → ForSome o (λ x. room_in x ≡ room)

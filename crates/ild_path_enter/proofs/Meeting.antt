@@ -2,7 +2,7 @@
 use Rattle.std.proofs.Common.{◌≡◌, inl, inr, ℕ, List, length, Some, None, Ok, Err, refl, sym, ap, ◌∙◌, subst, arith}
 use Rattle.std.specs.Prelude.{Result}
 use Rattle.std.proofs.lemmas.Option.{none-some, same_Some}
-use Rattle.ild_cbor.specs.Nodes.{Stands}
+use Rattle.ild_cbor.specs.Nodes.{HasData}
 use Rattle.ild_cbor.specs.declared.node.Node.{Node}
 use Rattle.ild_cbor.specs.declared.why.Why.{Why}
 use Rattle.ild_data.specs.Data.{Data}
@@ -71,7 +71,7 @@ module _ (h : List ℕ → List ℕ) (rows : List Row) (slot : Slot) (room : ℕ
           let same : room ≡ z.room = omega (arith, left) in
           subst (λ (s : Slot). IsRefusal rows z.room s d ty cause) (sym x.value_is) (subst (λ (r : ℕ). IsRefusal rows r slot d ty cause) same w)
 
-      pub meets_item : (end : List ℕ) (e : HamtFault) → end ≡ end_block block (trail_blocks trail) → ((d : Data) → Stands item d → EntryAnswer rows slot room d (Err e)) → NamesBlock {A = Entry} end (Err e) → MeetsSite h rows block k z m (Err e) n
+      pub meets_item : (end : List ℕ) (e : HamtFault) → end ≡ end_block block (trail_blocks trail) → ((d : Data) → HasData item d → EntryAnswer rows slot room d (Err e)) → NamesBlock {A = Entry} end (Err e) → MeetsSite h rows block k z m (Err e) n
       meets_item end (F.Block id why) same answers named =
           let y = item_of item finds in
           let a = answers y.value y.stands in
@@ -83,7 +83,7 @@ module _ (h : List ℕ → List ℕ) (rows : List Row) (slot : Slot) (room : ℕ
       meets_item end F.Size same answers named = tt
       meets_item end (F.Clash id kept new) same answers named = tt
 
-      pub meets_value : (e : Entry) (r : Entered) → r.trail ≡ trail → r.entry ≡ Some e → ((d : Data) → Stands item d → IsEntry rows slot room d e) → MeetsSite h rows block k z m (Ok r) n
+      pub meets_value : (e : Entry) (r : Entered) → r.trail ≡ trail → r.entry ≡ Some e → ((d : Data) → HasData item d → IsEntry rows slot room d e) → MeetsSite h rows block k z m (Ok r) n
       meets_value e r own there answers = λ f at.
           let y = item_of item finds in
           let own_entry = answers y.value y.stands in

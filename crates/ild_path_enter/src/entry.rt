@@ -1,6 +1,6 @@
 //! The value at the end of a trail.
 ghost use Rattle.std.specs.Prelude.{◌≡◌, ◌<◌, length, true};
-ghost use Rattle.ild_cbor.specs.Nodes.{Stands};
+ghost use Rattle.ild_cbor.specs.Nodes.{HasData};
 ghost use Rattle.ild_data.specs.Data.{Data};
 ghost use Rattle.ild_path_enter.specs.Enters.{EntryAnswer, NamesBlock};
 ghost use Rattle.ild_view.specs.Safe.{is_safe};
@@ -23,7 +23,7 @@ pub(crate) fn entry_in<'s>(
 ) -> Result<Entry<'s>, HamtFault>
     requires within { slot.ty.0 < length acc.now }
     requires safe { is_safe acc.now slot ≡ true }
-    ensures entry { (t : Data) → Stands item.now t → EntryAnswer acc.now slot room t result }
+    ensures entry { (t : Data) → HasData item.now t → EntryAnswer acc.now slot room t result }
     ensures named { NamesBlock block.now result }
 {
     match Entry::of(alloc, acc, slot, item, room) {

@@ -36,7 +36,7 @@ use Rattle.ild_typed_fronts.specs.Front.{in_one_block, is_root}
 use Rattle.ild_typed_fronts.proofs.Pathing.{not_true}
 use Rattle.ild_path_nodes.specs.NodeLaws.{IsHamt}
 use Rattle.ild_path_held.specs.HeldEdits.{room_at}
-use Rattle.ild_path_entered.specs.Entered.{IsEntered, Passes, path_through, with_entry, without_entry}
+use Rattle.ild_path_entered.specs.Entered.{IsEntered, PassesHamts, path_through, with_entry, without_entry}
 use Rattle.ild_path_entered.specs.EnteredLaws.{BelowEntries, AtEntries, ThroughEntries, SetsStand, SetsHaveData, NoneMet, with_value}
 
 -- ---- a HAMT as a holder
@@ -113,7 +113,7 @@ at_entries = λ rows is_key p front slot elem ps k x.
 
 -- ---- through many
 
-pub through_at : (rows : List Row) (gs : List (List (List ℕ) × List ℕ)) (p q : InSlot) → Passes rows p gs q → at rows p (path_through gs) ≡ Some q
+pub through_at : (rows : List Row) (gs : List (List (List ℕ) × List ℕ)) (p q : InSlot) → PassesHamts rows p gs q → at rows p (path_through gs) ≡ Some q
 through_at rows [] p q e = ap (λ r. Some r) e
 through_at rows (g ∷ gs) p q (slot, elem, ps, w, x, there, rest) =
     ap (at rows p) (sym (append_assoc g.0 (g.1 ∷ []) (path_through gs)))

@@ -23,9 +23,9 @@ without_entry k ps = map (pairs_of (without k (pairs_list ps)))
 
 -- ---- HAMTs one in the value of another's entry: for each the path to it in its block and its key, and what stands at the last key
 
-abbrev pub Passes : List Row → InSlot → List (List (List ℕ) × List ℕ) → InSlot → Type 0
-Passes rows p [] q = p ≡ q
-Passes rows p (g ∷ gs) q = (slot : Slot) × (elem : Slot) × (ps : Pairs) × (w : Value) × IsEntered rows p g.0 slot elem ps × (value_at g.1 (pairs_list ps) ≡ Some w) × Passes rows (elem, w) gs q
+abbrev pub PassesHamts : List Row → InSlot → List (List (List ℕ) × List ℕ) → InSlot → Type 0
+PassesHamts rows p [] q = p ≡ q
+PassesHamts rows p (g ∷ gs) q = (slot : Slot) × (elem : Slot) × (ps : Pairs) × (w : Value) × IsEntered rows p g.0 slot elem ps × (value_at g.1 (pairs_list ps) ≡ Some w) × PassesHamts rows (elem, w) gs q
 
 -- the path through them
 abbrev pub path_through : List (List (List ℕ) × List ℕ) → List (List ℕ)

@@ -26,7 +26,7 @@ use Rattle.ild_path_within.specs.Within.{with_part, with_result, moved}
 use Rattle.ild_typed_fronts.specs.Front.{in_one_block, is_root}
 use Rattle.ild_path_held.specs.Hamts.{IsTrieIn}
 use Rattle.ild_path_held.specs.HeldEdits.{room_at}
-use Rattle.ild_path_entered.specs.Entered.{IsEntered, Passes, path_through, with_entry, without_entry}
+use Rattle.ild_path_entered.specs.Entered.{IsEntered, PassesHamts, path_through, with_entry, without_entry}
 
 -- ---- edits
 
@@ -57,7 +57,7 @@ AtEntries =
 abbrev pub ThroughEntries : Type 0
 ThroughEntries =
     (rows : List Row) (is_key : ℕ → List ℕ → Bool) (p q : InSlot) (gs : List (List (List ℕ) × List ℕ)) (e : Edit Value) (s : List ℕ) (ss : List (List ℕ))
-    → Passes rows p gs q → path_of e ≡ s ∷ ss → change rows is_key p (moved (path_through gs ++ path_of e) e) ≡ with_result rows p (path_through gs) (change rows is_key q e)
+    → PassesHamts rows p gs q → path_of e ≡ s ∷ ss → change rows is_key p (moved (path_through gs ++ path_of e) e) ≡ with_result rows p (path_through gs) (change rows is_key q e)
 
 -- ---- what is there afterwards
 

@@ -1,6 +1,6 @@
 //! An item checked and kept, and what is told of it.
 ghost use Rattle.std.specs.Prelude.{◌≡◌, ◌<◌, ◌≤◌, length, true, ℕ};
-ghost use Rattle.ild_cbor.specs.Nodes.{Stands};
+ghost use Rattle.ild_cbor.specs.Nodes.{HasData};
 ghost use Rattle.ild_data.specs.Data.{Data, depth};
 ghost use Rattle.ild_schema.specs.Value.{Value};
 ghost use Rattle.ild_typed.specs.Fits.{Front};
@@ -50,7 +50,7 @@ impl<'s> Entry<'s> {
     ) -> Result<Entry<'s>, EntryErr>
         requires within { slot.ty.0 < length acc.now }
         requires safe { is_safe acc.now slot ≡ true }
-        ensures { (t : Data) → Stands item.now t → Enters acc.now slot room t result }
+        ensures { (t : Data) → HasData item.now t → Enters acc.now slot room t result }
     {
         let item = match Spelled::of(alloc, item) {
             Ok(item) => item,
@@ -69,7 +69,7 @@ impl<'s> Entry<'s> {
 
     /// Another value of the same slot in the same room, as `of` makes it.
     pub fn renewed(&self, alloc: Global, item: &Node<'_>) -> Result<Entry<'s>, EntryErr>
-        ensures { (t : Data) → Stands item.now t → Enters (table_in self.now) (slot_in self.now) (room_in self.now) t result }
+        ensures { (t : Data) → HasData item.now t → Enters (table_in self.now) (slot_in self.now) (room_in self.now) t result }
     {
         Self::of(alloc, self.acc, self.slot, item, self.room)
     }
@@ -109,8 +109,8 @@ impl<'s> Entry<'s> {
 
     /// The item of the whole, which nests no deeper than the room.
     pub fn node(&self) -> Node<'_>
-        ensures stands { Stands result (data_in self.now) }
-        ensures nests { (t : Data) → Stands result t → depth t ≤ room_in self.now }
+        ensures stands { HasData result (data_in self.now) }
+        ensures nests { (t : Data) → HasData result t → depth t ≤ room_in self.now }
     {
         self.acc.recall();
         known_root(self.item.as_slice())

@@ -7,7 +7,7 @@ use Rattle.ild_data.specs.declared.hamt_shape.HamtShape.{HamtShape}
 use Rattle.ild_edges.specs.Store.{Moment}
 use Rattle.ild_hamt.specs.Descending.{Descends, IsTrail, trail_blocks}
 use Rattle.ild_hamt.specs.Edits.{IsTrailAlong}
-use Rattle.ild_hamt.specs.Found.{Finds, FindsAtEnd}
+use Rattle.ild_hamt.specs.Found.{FoundInNode, FindsAtEnd}
 use Rattle.ild_hamt.specs.declared.trail.Trail.{Trail}
 use Rattle.ild_hamt_climb.specs.Way.{Leads}
 use Rattle.ild_node_slots.specs.Views.{HasSlots}
@@ -24,8 +24,8 @@ module _ (h : List ℕ → List ℕ) (p : HamtShape) (k : List ℕ) (slots : Lis
         trail = subst (λ (bs : List (List ℕ)). IsTrail h p k bs d.last trail) own d.answer;
       }
 
-  pub finds_last : (r : Option Node) → FindsAtEnd trail root r → Finds p (h k) (length d.bs) k d.last r
+  pub finds_last : (r : Option Node) → FindsAtEnd trail root r → FoundInNode p (h k) (length d.bs) k d.last r
   finds_last r finds =
       let own = d.answer.shape in
       let at = finds h k slots d.last (subst (λ (q : HamtShape). IsTrailAlong q root trail h k slots d.last) (sym own) trail_along) in
-      subst (λ (count : ℕ). Finds p (h k) count k d.last r) (ap length d.answer.blocks) (subst (λ (q : HamtShape). Finds q (h k) (length (trail_blocks trail)) k d.last r) own at)
+      subst (λ (count : ℕ). FoundInNode p (h k) count k d.last r) (ap length d.answer.blocks) (subst (λ (q : HamtShape). FoundInNode q (h k) (length (trail_blocks trail)) k d.last r) own at)

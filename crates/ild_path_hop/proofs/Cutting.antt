@@ -4,7 +4,7 @@ use Rattle.std.specs.Prelude.{Result, Ok, Err, option_map}
 use Rattle.std.specs.Option.{option_map_or}
 use Rattle.std.proofs.lemmas.Option.{same_Some}
 use Rattle.std.proofs.lemmas.Bool.{lt-ltb}
-use Rattle.ild_cbor.specs.Nodes.{Stands}
+use Rattle.ild_cbor.specs.Nodes.{HasData}
 use Rattle.ild_cbor.specs.declared.node.Node.{Node}
 use Rattle.ild_data.specs.ByteOrder.{without as remove}
 use Rattle.ild_data.specs.Data.{Data}
@@ -32,7 +32,7 @@ use Rattle.ild_typed.specs.OfType.{OfType}
 use Rattle.ild_typed.specs.Represented.{represented}
 use Rattle.ild_typed.specs.Slots.{element_of}
 use Rattle.ild_typed.proofs.TreeValues.{whole_tree}
-use Rattle.ild_path_block.specs.Edits.{Edits, IsPart}
+use Rattle.ild_path_block.specs.Edits.{EditsPart, IsPartItem}
 use Rattle.ild_path_block.specs.declared.edit.PartEdit.TheVariants as E
 use Rattle.ild_hamt.specs.declared.trail.Trail.{Trail}
 use Rattle.ild_open_held.specs.Held.{IsHeld}
@@ -126,16 +126,16 @@ module _ (h : List ℕ → List ℕ) (is_key : ℕ → List ℕ → Bool) (was :
   safe_hamt : IsSafe Rows slot
   safe_hamt = λ nullable. ap (λ o. kind_in o K.Null) set.entered.hamt.4
 
-  pub edits : (n : Node) → Stands n X → Edits is_key view path (E.Set n) (front h Rows S v) (front h Rows slot M) (front h Rows S C) t u
+  pub edits : (n : Node) → HasData n X → EditsPart is_key view path (E.Set n) (front h Rows S v) (front h Rows slot M) (front h Rows S C) t u
   edits n stands =
       let f = front h Rows S v in
       let typed_f : OfType Rows S f = (level.root.room, level.root.front.fits) in
       let x = fronts_are_fronts h Rows level.schema Less slot M X safe_hamt own.2 own.1 in
-      let is : IsPart Rows slot n (front h Rows slot M) = record { fits = (Less, x.fits); tree = X; tree_is = x.tree; stands = stands } in
+      let is : IsPartItem Rows slot n (front h Rows slot M) = record { fits = (Less, x.fits); tree = X; tree_is = x.tree; stands = stands } in
       record {
         keys = level.keys;
         root = level.root;
-        brings = λ r new. subst (λ y. IsPart Rows y n (front h Rows slot M)) (same_Some slot r (sym (slot_of_path Rows is_key level.schema level.keys path (S, f) (slot, front h Rows slot (map ps)) (front h Rows slot M) typed_f front_at) ∙ new)) is;
+        brings = λ r new. subst (λ y. IsPartItem Rows y n (front h Rows slot M)) (same_Some slot r (sym (slot_of_path Rows is_key level.schema level.keys path (S, f) (slot, front h Rows slot (map ps)) (front h Rows slot M) typed_f front_at) ∙ new)) is;
         makes = parts_are_set Rows is_key (S, f) (slot, front h Rows slot (map ps)) path (front h Rows slot M) front_at
             ∙ ap (λ c. Ok c) (wholes_of_fronts h Rows is_key level.schema level.keys (S, v) (slot, map ps) path M typed_v set.entered.inside set.entered.at typed_m);
         shown = fronts_represent h Rows S C ∙ set.tree;

@@ -5,7 +5,7 @@ use Rattle.std.specs.FinMap.{put as insert}
 use Rattle.std.specs.Option.{option_map_or}
 use Rattle.std.proofs.lemmas.Option.{same_Some}
 use Rattle.std.proofs.lemmas.Bool.{lt-ltb}
-use Rattle.ild_cbor.specs.Nodes.{Stands}
+use Rattle.ild_cbor.specs.Nodes.{HasData}
 use Rattle.ild_cbor.specs.declared.node.Node.{Node}
 use Rattle.ild_data.specs.ByteOrder.{bytewise}
 use Rattle.ild_data.specs.Data.{Data}
@@ -38,7 +38,7 @@ use Rattle.ild_typed.proofs.TreeValues.{whole_tree}
 use Rattle.ild_path_edits.specs.Edit.{new_slot, set_at}
 use Rattle.ild_path_edits.specs.Table.{slot_to_set}
 use Rattle.ild_path_edits.proofs.KeepTyped.{of_type_is_kept}
-use Rattle.ild_path_block.specs.Edits.{Edits, IsPart}
+use Rattle.ild_path_block.specs.Edits.{EditsPart, IsPartItem}
 use Rattle.ild_path_block.specs.declared.edit.PartEdit.TheVariants as E
 use Rattle.ild_path_block.proofs.Allowing.{view_of}
 use Rattle.ild_hamt.specs.Given.{GivesWay}
@@ -98,8 +98,8 @@ pub still_given : (h : List ℕ → List ℕ) (p : HamtShape) (k : List ℕ) (es
 still_given h p k es root (Ok b) n all = all
 still_given h p k es root (Err e) n all = tt
 
-pub item_stands : (b : List ℕ) (n : Node) (d x : Data) → IsBlockOf b d → IsRoot n b d → b ≡ spell x → IsTree x → Stands n x
-item_stands b n d x block root e tree = subst (Stands n) (one_within d x block.within tree (sym block.spelled ∙ e)) root.stands
+pub item_stands : (b : List ℕ) (n : Node) (d x : Data) → IsBlockOf b d → IsRoot n b d → b ≡ spell x → IsTree x → HasData n x
+item_stands b n d x block root e tree = subst (HasData n) (one_within d x block.within tree (sym block.spelled ∙ e)) root.stands
 
 -- ---- one level
 
@@ -168,16 +168,16 @@ module _ (h : List ℕ → List ℕ) (is_key : ℕ → List ℕ → Bool) (was :
   safe_hamt : IsSafe Rows slot
   safe_hamt = λ nullable. ap (λ o. kind_in o K.Null) set.entered.hamt.4
 
-  pub edits : (n : Node) → Stands n X → Edits is_key view path (E.Set n) (front h Rows S v) (front h Rows slot M) (front h Rows S C) t u
+  pub edits : (n : Node) → HasData n X → EditsPart is_key view path (E.Set n) (front h Rows S v) (front h Rows slot M) (front h Rows S C) t u
   edits n stands =
       let f = front h Rows S v in
       let typed_f : OfType Rows S f = (level.root.room, level.root.front.fits) in
       let x = fronts_are_fronts h Rows level.schema Less slot M X safe_hamt own.2 own.1 in
-      let is : IsPart Rows slot n (front h Rows slot M) = record { fits = (Less, x.fits); tree = X; tree_is = x.tree; stands = stands } in
+      let is : IsPartItem Rows slot n (front h Rows slot M) = record { fits = (Less, x.fits); tree = X; tree_is = x.tree; stands = stands } in
       record {
         keys = level.keys;
         root = level.root;
-        brings = λ r new. subst (λ y. IsPart Rows y n (front h Rows slot M)) (same_Some slot r (sym (slot_of_path Rows is_key level.schema level.keys path (S, f) (slot, front h Rows slot (map ps)) (front h Rows slot M) typed_f front_at) ∙ new)) is;
+        brings = λ r new. subst (λ y. IsPartItem Rows y n (front h Rows slot M)) (same_Some slot r (sym (slot_of_path Rows is_key level.schema level.keys path (S, f) (slot, front h Rows slot (map ps)) (front h Rows slot M) typed_f front_at) ∙ new)) is;
         makes = parts_are_set Rows is_key (S, f) (slot, front h Rows slot (map ps)) path (front h Rows slot M) front_at
             ∙ ap (λ c. Ok c) (wholes_of_fronts h Rows is_key level.schema level.keys (S, v) (slot, map ps) path M typed_v set.entered.inside set.entered.at typed_m);
         shown = fronts_represent h Rows S C ∙ set.tree;

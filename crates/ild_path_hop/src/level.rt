@@ -1,13 +1,13 @@
 //! One level outward.
 ghost use Rattle.ild_hamt.specs.Edits.{CausedBy};
 ghost use Rattle.std.specs.Prelude.{◌≡◌, ℕ, Bool, IfErr, List, Ok, Some};
-ghost use Rattle.ild_cbor.specs.Nodes.{Stands};
+ghost use Rattle.ild_cbor.specs.Nodes.{HasData};
 ghost use Rattle.ild_data.specs.Data.{Data};
 ghost use Rattle.ild_edges.specs.Store.{Moment};
 ghost use Rattle.ild_cbor.specs.declared.node.Node.{Node as Item};
 ghost use Rattle.ild_data.specs.Spell.{spell};
 ghost use Rattle.ild_data.specs.Tree.{IsTree};
-ghost use Rattle.ild_path_block.specs.Edits.{Edits};
+ghost use Rattle.ild_path_block.specs.Edits.{EditsPart};
 ghost use Rattle.ild_path_block.specs.declared.edit.PartEdit.TheVariants.{Set as SetTo};
 ghost use Rattle.ild_path_reroot.specs.Reroots.{IsHamtView, IsWritingFault, MakesRoot};
 ghost use Rattle.ild_path_hop.specs.Levels.{CutsEntry, IsCutThere, IsLevel, IsSetThere, LeadsToHamt, SetsEntry};
@@ -52,7 +52,7 @@ fn with_root<'a>(
     map: &Octets,
 ) -> Result<Octets, HamtFault>
     ensures made { (is_key : ℕ → List ℕ → Bool) (f w c : Value) (t x u : Data) → map.now ≡ spell x → IsTree x
-        → ((n : Item) → Stands n x → Edits is_key root.now front.now (SetTo n) f w c t u) → MakesRoot (spell u) result }
+        → ((n : Item) → HasData n x → EditsPart is_key root.now front.now (SetTo n) f w c t u) → MakesRoot (spell u) result }
     ensures fault { IfErr result IsWritingFault }
 {
     let item = match check(map.as_slice()) {
@@ -83,7 +83,7 @@ pub fn set_entry<'a, K: Store, H: KeyHash>(
     ensures caused { CausedBy (K.moment store.old) result (K.moment store.new) }
     ensures sets { (is_key : ℕ → List ℕ → Bool) (was : List (List ℕ)) (room : ℕ) (v w : Value) (t d u : Data)
         (slot elem : Place) (ps : Pairs) (es : List (List ℕ × Data)) (k : List ℕ) → (K.moment store.old).blocks ≡ Some was
-        → IsLevel H.hash_of is_key was room v t root.now → (set : IsSetThere H.hash_of is_key was room v root.now front.now slot elem ps es k w d u trail) → Stands item.now d
+        → IsLevel H.hash_of is_key was room v t root.now → (set : IsSetThere H.hash_of is_key was room v root.now front.now slot elem ps es k w d u trail) → HasData item.now d
         → SetsEntry H.hash_of set.entered.hamt.3 room v front.now ps es k w d u root.now (K.moment store.old) result (K.moment store.new) }
 {
     let hamt = hamt_at(root, front);

@@ -17,7 +17,7 @@ use Rattle.ild_path_within.proofs.Splitting.{first_of_path}
 use Rattle.ild_path_held.specs.HeldEdits.{room_at}
 use Rattle.ild_path_held.proofs.Holding.{held_stays}
 use Rattle.ild_path_nodes.specs.NodeLaws.{IsHamt}
-use Rattle.ild_path_entered.specs.Entered.{Passes}
+use Rattle.ild_path_entered.specs.Entered.{PassesHamts}
 use Rattle.ild_path_entered.proofs.Editing.{entry_part}
 use Rattle.ild_path_hops.specs.Hops.{AreHops, IsHop, front_of, key_of, step_of}
 use Rattle.ild_path_hops.specs.HopLaws.{HopsEnd, HopsGrow, HopsLeave, HopsPass, HopsStay, IsLastHop, path_of_hops}
@@ -42,7 +42,7 @@ hops_end = λ h rows was room less p q hops hop all. by h rows was room less p q
 
 pub hops_pass : HopsPass
 hops_pass = λ h rows was room less p q hops all. by h rows was room less p q hops all where
-  by : (h : List ℕ → List ℕ) (rows : List Row) (was : List (List ℕ)) (room less : ℕ) (p q : InSlot) (hops : List Hop) → AreHops h rows was room p hops q less → Passes rows p (map step_of hops) q
+  by : (h : List ℕ → List ℕ) (rows : List Row) (was : List (List ℕ)) (room less : ℕ) (p q : InSlot) (hops : List Hop) → AreHops h rows was room p hops q less → PassesHamts rows p (map step_of hops) q
   by h rows was room less p q [] same = same.0
   by h rows was room less p q (hop ∷ hops) (m, n, first, rest) = (first.slot, m.0, first.ps, m.1, first.entered, first.value, by h rows was n less m q hops rest)
 

@@ -3,7 +3,7 @@ use Rattle.std.specs.Prelude.{◌≡◌, ℕ, List, [], ◌∷◌, ◌++◌, map
 use Rattle.ild_edges.specs.Store.{Keeps}
 use Rattle.ild_schema.specs.declared.row.Row.{Row}
 use Rattle.ild_typed.specs.At.{InSlot}
-use Rattle.ild_path_entered.specs.Entered.{Passes, path_through}
+use Rattle.ild_path_entered.specs.Entered.{PassesHamts, path_through}
 use Rattle.ild_path_held.specs.HeldEdits.{room_at}
 use Rattle.ild_path_hops.specs.Hops.{AreHops, IsHop, step_of}
 use Rattle.ild_path_hops.specs.declared.hop.Hop.{Hop}
@@ -32,7 +32,7 @@ HopsEnd =
 
 -- they pass through HAMTs one in the value of another's entry
 abbrev pub HopsPass : Type 0
-HopsPass = (h : List ℕ → List ℕ) (rows : List Row) (was : List (List ℕ)) (room less : ℕ) (p q : InSlot) (hops : List Hop) → AreHops h rows was room p hops q less → Passes rows p (map step_of hops) q
+HopsPass = (h : List ℕ → List ℕ) (rows : List Row) (was : List (List ℕ)) (room less : ℕ) (p q : InSlot) (hops : List Hop) → AreHops h rows was room p hops q less → PassesHamts rows p (map step_of hops) q
 
 -- and leave the room that the path leaves
 abbrev pub HopsLeave : Type 0

@@ -23,7 +23,7 @@ use Rattle.ild_path_steps.proofs.Holding.{Held, held_by, of_any, of_elements, of
 use Rattle.ild_path_steps.proofs.Leading.{member_number}
 use Rattle.ild_schema.specs.DataKinds.{same_kind}
 use Rattle.ild_schema.specs.Hex.{bytes_of_hex}
-use Rattle.ild_schema.specs.Marks.{kind_of as mark_kind, text_of as mark_text}
+use Rattle.ild_schema.specs.Marks.{mark_kind, mark_text}
 use Rattle.ild_schema.specs.Parts.{part_named}
 use Rattle.ild_schema.specs.Slots.{form_of, plainly}
 use Rattle.ild_schema.specs.Value as V
@@ -40,7 +40,7 @@ use Rattle.ild_typed.specs.At.{InSlot, seen}
 use Rattle.ild_typed.specs.Composed.{Hamts, inlined, marked_form, member_form, union_form}
 use Rattle.ild_typed.specs.Hamt.{alone}
 use Rattle.ild_typed.specs.Holder.{member, value_of}
-use Rattle.ild_typed.specs.Kinds.{kind_of}
+use Rattle.ild_typed.specs.Kinds.{kind_word_of}
 use Rattle.ild_typed.specs.Layer as L
 use Rattle.ild_typed.specs.Represented.{layered, represented}
 use Rattle.ild_typed.specs.Strings.{bytes_in, map_data, members_in, text_in}
@@ -98,7 +98,7 @@ map_if true u j e none = text_made u j e none
 map_if false u j e none = absurd (none-some (T.text j) e)
 
 textual : (form : UnionForm) (ms : List Member) (n k : ℕ) (y : Data) (j t : List ℕ) → union_form form ms (n, y) ≡ Some (T.text j) → option_map T.text (option_and_then text_in (union_form form ms (k, T.text t))) ≡ union_form form ms (k, T.text t)
-textual U.Kinded ms n k y j t e = textual_then (member_form U.Kinded (T.text t)) (slice_get ms k) (λ m. textual_then _ (mark_kind m.mark) (λ w. textual_if (same_kind w (kind_of (T.text t))) t))
+textual U.Kinded ms n k y j t e = textual_then (member_form U.Kinded (T.text t)) (slice_get ms k) (λ m. textual_then _ (mark_kind m.mark) (λ w. textual_if (same_kind w (kind_word_of (T.text t))) t))
 textual U.StringPrefix ms n k y j t e = textual_then (member_form U.StringPrefix (T.text t)) (slice_get ms k) (λ m. textual_then (marked_form U.StringPrefix (T.text t)) (mark_text m.mark) (λ name. refl))
 textual U.Keyed ms n k y j t e =
     let m = chained (member_form U.Keyed y) (slice_get ms n) (T.text j) e in

@@ -3,7 +3,7 @@ use Rattle.std.proofs.Common.{◌≡◌, ℕ, Bool, true, false, List, [], ◌�
 use Rattle.std.specs.List.{AllByRecursion}
 use Rattle.std.specs.Prelude.{option_and_then, option_map}
 use Rattle.std.proofs.lemmas.Option.{none-some, same_Some}
-use Rattle.ild_cbor.specs.Nodes.{Stands}
+use Rattle.ild_cbor.specs.Nodes.{HasData}
 use Rattle.ild_cbor.specs.Scalar.{text_of}
 use Rattle.ild_cbor.specs.declared.node.Node.{Node}
 use Rattle.ild_data.specs.Data as T
@@ -44,7 +44,7 @@ use Rattle.ild_typed.specs.At.{InSlot, seen}
 use Rattle.ild_typed.specs.Composed.{map_form, struct_form}
 use Rattle.ild_typed.specs.Fields.{all_items, field_entries}
 use Rattle.ild_typed.specs.Hamt.{alone}
-use Rattle.ild_typed.specs.Kinds.{kind_of}
+use Rattle.ild_typed.specs.Kinds.{kind_word_of}
 use Rattle.ild_typed.specs.Layer as L
 use Rattle.ild_typed.specs.Represented.{represented}
 use Rattle.ild_typed.specs.Strings.{stringjoin, stringpairs, text_pairs, texts_in}
@@ -55,7 +55,7 @@ never e = absurd cc
 
 -- ---- data of text form
 
-text_of_kind : (d : Data) → kind_of d ≡ K.Text → (j : List ℕ) × (d ≡ T.text j)
+text_of_kind : (d : Data) → kind_word_of d ≡ K.Text → (j : List ℕ) × (d ≡ T.text j)
 text_of_kind (T.text s) e = (s, refl)
 text_of_kind T.null e = absurd cc
 text_of_kind (T.boolean b) e = absurd cc
@@ -66,10 +66,10 @@ text_of_kind (T.map ms) e = absurd cc
 text_of_kind (T.link s) e = absurd cc
 
 pub text_slot : (rows : List Row) (slot : Slot) (v : Value) (t : Data) → IsTextSlot rows slot → represented alone rows slot v ≡ Some t → (j : List ℕ) × (t ≡ T.text j)
-text_slot rows slot v t text made = text_of_kind t (text.only (kind_of t) (by (way_of alone rows slot v t made))) where
-  by : Way alone rows slot v t → slot_has rows slot (kind_of t) ≡ true
+text_slot rows slot v t text made = text_of_kind t (text.only (kind_word_of t) (by (way_of alone rows slot v t made))) where
+  by : Way alone rows slot v t → slot_has rows slot (kind_word_of t) ≡ true
   by (as_null v_null nullable is_null) = never (sym text.plain ∙ nullable)
-  by (as_layer d l is there done) = ap (λ o. kind_in o (kind_of t)) is ∙ composed_kind alone alone_kind d l t done
+  by (as_layer d l is there done) = ap (λ o. kind_in o (kind_word_of t)) is ∙ composed_kind alone alone_kind d l t done
 
 -- ---- the slots of a text's parts
 
@@ -95,15 +95,15 @@ map_slot rows (M.Hamt shape) elem text made = never text
 
 -- ---- the node of a part, which is a text
 
-pub no_part : (n : Node) (o : Option Node) (t : Option (List ℕ)) → o ≡ Some n → NewIs o (option_map T.text t) → ((x : Data) → Stands n x → None ≡ text_of x) → ⊥
+pub no_part : (n : Node) (o : Option Node) (t : Option (List ℕ)) → o ≡ Some n → NewIs o (option_map T.text t) → ((x : Data) → HasData n x → None ≡ text_of x) → ⊥
 no_part n None t e new is = none-some n e
 no_part n (Some m) None e new is = absurd new
-no_part n (Some m) (Some s) e new is = none-some s (is (T.text s) (subst (λ k. Stands k (T.text s)) (same_Some m n e) new))
+no_part n (Some m) (Some s) e new is = none-some s (is (T.text s) (subst (λ k. HasData k (T.text s)) (same_Some m n e) new))
 
-pub part_is : (n : Node) (o : Option Node) (t : Option (List ℕ)) (j : List ℕ) → o ≡ Some n → NewIs o (option_map T.text t) → ((x : Data) → Stands n x → Some j ≡ text_of x) → Some j ≡ t
+pub part_is : (n : Node) (o : Option Node) (t : Option (List ℕ)) (j : List ℕ) → o ≡ Some n → NewIs o (option_map T.text t) → ((x : Data) → HasData n x → Some j ≡ text_of x) → Some j ≡ t
 part_is n None t j e new is = absurd (none-some n e)
 part_is n (Some m) None j e new is = absurd new
-part_is n (Some m) (Some s) j e new is = is (T.text s) (subst (λ k. Stands k (T.text s)) (same_Some m n e) new)
+part_is n (Some m) (Some s) j e new is = is (T.text s) (subst (λ k. HasData k (T.text s)) (same_Some m n e) new)
 
 module _ (rows : List Row) (legible : IsLegible rows) (q : InSlot) (t : Data) (d : TypeDef) (known : form_of rows q.0 ≡ Some d) (text : is_text_form d ≡ true) (held : Held rows d (seen rows q) t) (holds : is_holder (seen rows q) ≡ true) where
   part_slot : (s : List ℕ) (slot : Slot) → slot_to_set (seen rows q) s ≡ Some slot → IsTextSlot rows slot
@@ -172,9 +172,9 @@ module _ (rows : List Row) (legible : IsLegible rows) (q : InSlot) (t : Data) (d
   pub comes : (edit : PartEdit) (w : Value) (s : List ℕ) → Allows rows edit (seen rows q) s w → Comes edit w s
   comes (E.Set n) w s h =
       let x = text_slot rows h.0 w h.2.tree (part_slot s h.0 h.1) h.2.tree_is in
-      record { value = Some w; new = Some x.0; lets = (h.0, h.1, h.2.tree_is ∙ ap Some x.1); node = subst (Stands n) x.1 h.2.stands; made = refl }
+      record { value = Some w; new = Some x.0; lets = (h.0, h.1, h.2.tree_is ∙ ap Some x.1); node = subst (HasData n) x.1 h.2.stands; made = refl }
   comes (E.Insert n) w s h =
       let at = as_set (seen rows q) s h.0 w no_list h.1 in
       let x = text_slot rows h.0 w h.2.tree (part_slot s h.0 at.1) h.2.tree_is in
-      record { value = Some w; new = Some x.0; lets = (h.0, at.1, h.2.tree_is ∙ ap Some x.1); node = subst (Stands n) x.1 h.2.stands; made = at.0 }
+      record { value = Some w; new = Some x.0; lets = (h.0, at.1, h.2.tree_is ∙ ap Some x.1); node = subst (HasData n) x.1 h.2.stands; made = at.0 }
   comes E.Delete w s h = record { value = None; new = None; lets = h; node = tt; made = refl }

@@ -1,7 +1,7 @@
 -- Laws for callers that make the items of the holders along a path, from the last one up.
 use Rattle.std.specs.Prelude.{◌≡◌, ◌≤◌, ℕ, true, List, [], ◌∷◌, Option, Some, None, Result, Ok}
 use Rattle.ild_cbor.specs.Block.{IsBlockOf}
-use Rattle.ild_cbor.specs.Nodes.{Stands}
+use Rattle.ild_cbor.specs.Nodes.{HasData}
 use Rattle.ild_cbor.specs.declared.node.Node.{Node}
 use Rattle.ild_data.specs.Data.{Data, depth}
 use Rattle.ild_data.specs.Limits.{deepest}
@@ -30,7 +30,7 @@ pub record MayEdit (rows : List Row) (h : Holder) (s : List ℕ) (n : Node) (c :
 -- a part q that is there may be set to what it becomes, by an item of that
 abbrev pub PartsAreSet : Type 0
 PartsAreSet = (rows : List Row) → IsSchema rows → (p q : InSlot) (s : List ℕ) (c : Value) (d : Data) (n : Node)
-    → OfType rows p.0 p.1 → part (seen rows p) s ≡ Some q → OfType rows q.0 c → represented alone rows q.0 c ≡ Some d → Stands n d
+    → OfType rows p.0 p.1 → part (seen rows p) s ≡ Some q → OfType rows q.0 c → represented alone rows q.0 c ≡ Some d → HasData n d
     → MayEdit rows (seen rows p) s n c
 
 -- the item of what a holder p is changed to along a path, which changes its last holder by f

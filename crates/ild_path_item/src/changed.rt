@@ -1,6 +1,6 @@
 //! Forms of which a part is changed in the item that stands there.
 ghost use Rattle.std.specs.Prelude.{◌≡◌, ◌<◌, Some, [], false, length, option_map, true};
-ghost use Rattle.ild_cbor.specs.Nodes.{Stands};
+ghost use Rattle.ild_cbor.specs.Nodes.{HasData};
 ghost use Rattle.ild_data.specs.Data.{Data};
 ghost use Rattle.ild_layer_piece.specs.Pieces.{IsNumbered, IsWithout, StandsFor, passed_key};
 ghost use Rattle.ild_path_block.specs.Items.{AnswersItem, is_refusing};
@@ -23,7 +23,7 @@ use std::alloc::Global;
 
 // The item as a block by itself.
 fn apart<'b>(node: &Node<'b>) -> Node<'b>
-    ensures { (t : Data) → Stands node.now t → IsAt result t [] t }
+    ensures { (t : Data) → HasData node.now t → IsAt result t [] t }
 {
     // It does no work: its clause says what the node of a whole block is.
     nodes_are_at_places();

@@ -1,7 +1,7 @@
 //! Writing the item of a text.
 ghost use Rattle.std.specs.Prelude.{◌≡◌, IfOk};
 ghost use Rattle.ild_data.specs.Spell.{spell_text};
-ghost use Rattle.ild_splice.specs.Made.{Makes};
+ghost use Rattle.ild_splice.specs.Made.{MakesBytes};
 
 use ild_data::{LONGEST_BLOCK, Octets};
 use ild_emit::Emit;
@@ -19,7 +19,7 @@ fn spelled(alloc: Global, text: &str, room: usize) -> Result<Octets, AllocError>
 
 /// The item of a text, where it is no longer than a block may be: its canonical bytes (DAG-CBOR).
 pub(crate) fn text_item(alloc: Global, text: &str) -> Result<Octets, SpliceErr>
-    ensures { Makes (spell_text text.now) result }
+    ensures { MakesBytes (spell_text text.now) result }
 {
     let size = text_size(text);
     if size > LONGEST_BLOCK as u128 {

@@ -11,7 +11,7 @@ use Rattle.ild_typed.specs.Holder.{Holder, value_of}
 use Rattle.ild_typed.specs.OfType.{OfType, TestsKeys}
 use Rattle.ild_typed.specs.Schema.{IsSchema}
 use Rattle.ild_typed.specs.Segment.{part, set_part}
-use Rattle.ild_path_edits.specs.Along.{IsFree, Passes}
+use Rattle.ild_path_edits.specs.Along.{IsFree, LayerPasses}
 use Rattle.ild_path_edits.proofs.Paths.{typed_changed}
 use Rattle.ild_path_judged.specs.Place.{last_in}
 use Rattle.ild_path_judged.proofs.Last.{Of, kept, Free, parts_of, replaced}
@@ -78,7 +78,7 @@ module _ (rows : List Row) (is_key : ℕ → List ℕ → Bool) (schema : IsSche
         by (Some q) there last h rest = rest q there last h
 
     -- and the other way, where a part that is replaced leaves its holder as it was
-    module _ (steady : (p q : InSlot) (s : List ℕ) (c : Value) → G p → FreeAt p → part (seen rows p) s ≡ Some q → OfType rows q.0 c → Passes test rows p.0 (set_part (seen rows p) s c)) where
+    module _ (steady : (p q : InSlot) (s : List ℕ) (c : Value) → G p → FreeAt p → part (seen rows p) s ≡ Some q → OfType rows q.0 c → LayerPasses test rows p.0 (set_part (seen rows p) s c)) where
       pub up : (ss : List (List ℕ)) (p : InSlot) (s : List ℕ) → G p → FreeAt p → last_in rows p s ss ≡ Some m → Made → IsFree test rows p.0 (changed_in rows f p s ss)
       up [] p s g a e h = subst (λ X. X) (sym (at_end p s (same_Some (p, s) m e))) h
       up (t ∷ ss) p s g a e h =

@@ -28,7 +28,7 @@ use Rattle.ild_typed.specs.Schema.{IsSchema}
 use Rattle.ild_typed.specs.Segment.{part, set_part, set_field, put_by, member_named}
 use Rattle.ild_typed.specs.Strings.{cons_both}
 use Rattle.ild_value_meaning.proofs.ByParts.{AreInOrder}
-use Rattle.ild_path_edits.specs.Along.{Passes}
+use Rattle.ild_path_edits.specs.Along.{LayerPasses}
 use Rattle.ild_path_edits.specs.Table.{delete_part}
 use Rattle.ild_path_edits.proofs.Entries.{put_by-there}
 use Rattle.ild_path_edits.proofs.HeldTyped.{with_slot}
@@ -119,12 +119,12 @@ module _ (h : List ℕ → List ℕ) (rows : List Row) where
     cut_in_form (MF.StringPairs inner entry) elem s ps es up e is = refl
     cut_in_form (MF.Hamt shape) elem s ps es up e is = cut_stays shape elem s ps es e (rises_each (rep elem) ps es e (up refl)) (ap (exhausts_by (MF.Hamt shape)) (sym e) ∙ is)
 
-    other_member : (slot : Slot) (ms : List Member) (n : ℕ) (v c : Value) (o : Option (ℕ × Member)) → Passes test rows slot (option_map_or (λ (p : ℕ × Member). member ms p.0 c) o (member ms n v))
+    other_member : (slot : Slot) (ms : List Member) (n : ℕ) (v c : Value) (o : Option (ℕ × Member)) → LayerPasses test rows slot (option_map_or (λ (p : ℕ × Member). member ms p.0 c) o (member ms n v))
     other_member slot ms n v c None = no_map (form_of rows slot) (V.union n v) tt
     other_member slot ms n v c (Some p) = no_map (form_of rows slot) (V.union p.0 c) tt
 
-    pub steady_full : (slot : Slot) (v : Value) (d : Data) (k : Holder) (s : List ℕ) (q : InSlot) (c : Value) → rep slot v ≡ Some d → holder_of rows slot v ≡ k → HeldBy rows is_key schema keys slot k → Passes test rows slot k → part k s ≡ Some q
-        → Passes test rows slot (set_part k s c)
+    pub steady_full : (slot : Slot) (v : Value) (d : Data) (k : Holder) (s : List ℕ) (q : InSlot) (c : Value) → rep slot v ≡ Some d → holder_of rows slot v ≡ k → HeldBy rows is_key schema keys slot k → LayerPasses test rows slot k → part k s ≡ Some q
+        → LayerPasses test rows slot (set_part k s c)
     steady_full slot v d (fields fs os) s q c tree same t o e = no_map (form_of rows slot) (V.struct (optionals_of (set_field s (Some c) fs os))) tt
     steady_full slot v d (member ms n u) s q c tree same t o e = other_member slot ms n u c (member_named s ms)
     steady_full slot v d (entries key elem paired ps) s q c tree same t o e =
@@ -137,7 +137,7 @@ module _ (h : List ℕ → List ℕ) (rows : List Row) where
     steady_full slot v d (any_elements ds) s q c tree same t o e = tt
     steady_full slot v d (nothing u) s q c tree same t o e = tt
 
-    pub gone_full : (slot : Slot) (v : Value) (d : Data) (k : Holder) (s : List ℕ) → rep slot v ≡ Some d → holder_of rows slot v ≡ k → HeldBy rows is_key schema keys slot k → Passes test rows slot k → Passes test rows slot (delete_part k s)
+    pub gone_full : (slot : Slot) (v : Value) (d : Data) (k : Holder) (s : List ℕ) → rep slot v ≡ Some d → holder_of rows slot v ≡ k → HeldBy rows is_key schema keys slot k → LayerPasses test rows slot k → LayerPasses test rows slot (delete_part k s)
     gone_full slot v d (fields fs os) s tree same t o = no_map (form_of rows slot) (V.struct (optionals_of (set_field s None fs os))) tt
     gone_full slot v d (member ms n u) s tree same t o = o
     gone_full slot v d (entries key elem paired ps) s tree same t o =

@@ -18,7 +18,7 @@ use Rattle.ild_typed.specs.Judged.{some_present, hole_in, tuple_hole, is_hole}
 use Rattle.ild_typed.specs.Segment.{part, set_part, field_at, set_field, member_named}
 use Rattle.std.specs.Option.{option_map_or}
 use Rattle.ild_schema.specs.declared.def.Member.{Member}
-use Rattle.ild_path_edits.specs.Along.{Passes}
+use Rattle.ild_path_edits.specs.Along.{LayerPasses}
 
 -- what has no fields has no hole
 abbrev pub IsNoStruct : Value → Type 0
@@ -61,12 +61,12 @@ same_hole (Some (T.Struct s)) os ps e = by s.form where
   by f = refl
 same_hole (Some d) os ps e = refl
 
-other_member : (rows : List Row) (slot : Slot) (ms : List Member) (n : ℕ) (v c : Value) (o : Option (ℕ × Member)) → Passes is_hole rows slot (option_map_or (λ (p : ℕ × Member). member ms p.0 c) o (member ms n v))
+other_member : (rows : List Row) (slot : Slot) (ms : List Member) (n : ℕ) (v c : Value) (o : Option (ℕ × Member)) → LayerPasses is_hole rows slot (option_map_or (λ (p : ℕ × Member). member ms p.0 c) o (member ms n v))
 other_member rows slot ms n v c None = no_hole (form_of rows slot) (V.union n v) tt
 other_member rows slot ms n v c (Some p) = no_hole (form_of rows slot) (V.union p.0 c) tt
 
 -- so a holder of which a part is replaced has no hole where it had none
-pub steady_hole : (rows : List Row) (slot : Slot) (k : Holder) (s : List ℕ) (q : Slot × Value) (c : Value) → Passes is_hole rows slot k → part k s ≡ Some q → Passes is_hole rows slot (set_part k s c)
+pub steady_hole : (rows : List Row) (slot : Slot) (k : Holder) (s : List ℕ) (q : Slot × Value) (c : Value) → LayerPasses is_hole rows slot k → part k s ≡ Some q → LayerPasses is_hole rows slot (set_part k s c)
 steady_hole rows slot (fields fs os) s q c o e = same_hole (form_of rows slot) (optionals_of (set_field s (Some c) fs os)) (optionals_of os) (hole_set s c fs os q e) ∙ o
 steady_hole rows slot (member ms n v) s q c o e = other_member rows slot ms n v c (member_named s ms)
 steady_hole rows slot (entries key elem paired ps) s q c o e = no_hole (form_of rows slot) (value_of (set_part (entries key elem paired ps) s c)) tt

@@ -24,7 +24,7 @@ use Rattle.ild_typed.specs.Schema.{IsSchema}
 use Rattle.ild_typed.specs.Segment.{part, set_part}
 use Rattle.ild_typed.proofs.Judging.{tree_sound}
 use Rattle.ild_value_meaning.proofs.Told.{told}
-use Rattle.ild_path_edits.specs.Along.{IsFree, Passes}
+use Rattle.ild_path_edits.specs.Along.{IsFree, LayerPasses}
 use Rattle.ild_path_edits.specs.Edit.{del_at, path_of, new_slot, set_in, ins_in, del_in, change}
 use Rattle.ild_path_edits.specs.Table.{slot_to_set, slot_to_insert, key_fits, MayStand, insert_part, refusal_to_delete, delete_part}
 use Rattle.ild_path_edits.proofs.HeldTyped.{IsBare}
@@ -152,7 +152,7 @@ module _ (h : List ℕ → List ℕ) (rows : List Row) (is_key : ℕ → List �
 
   -- a holder passes a test exactly where its value does
   passes_is : (test : Option TypeDef → Value → Bool) → ((F : Option TypeDef) (v : Value) → IsPlain v → test F v ≡ false) → (slot : Slot) (k : Holder) → HeldBy rows is_key schema keys slot k
-      → Passes test rows slot k ↔ (test (form_of rows slot) (value_of k) ≡ false)
+      → LayerPasses test rows slot k ↔ (test (form_of rows slot) (value_of k) ≡ false)
   passes_is test quiet slot (fields fs os) t = (λ x. x, λ x. x)
   passes_is test quiet slot (member ms n v) t = (λ x. x, λ x. x)
   passes_is test quiet slot (entries key elem paired ps) t = (λ x. x, λ x. x)
@@ -162,7 +162,7 @@ module _ (h : List ℕ → List ℕ) (rows : List Row) (is_key : ℕ → List �
   passes_is test quiet slot (nothing v) t = (λ x. quiet (form_of rows slot) v (bare_plain v t.1), λ x. tt)
 
   abbrev Steady : (Option TypeDef → Value → Bool) → Type 0
-  Steady test = (p q : InSlot) (s : List ℕ) (c : Value) → Whole p → IsFree test rows p.0 p.1 → part (seen rows p) s ≡ Some q → OfT (q.0, c) → Passes test rows p.0 (set_part (seen rows p) s c)
+  Steady test = (p q : InSlot) (s : List ℕ) (c : Value) → Whole p → IsFree test rows p.0 p.1 → part (seen rows p) s ≡ Some q → OfT (q.0, c) → LayerPasses test rows p.0 (set_part (seen rows p) s c)
 
   hole_steady : Steady is_hole
   hole_steady p q s c w free e new = steady_hole rows p.0 (seen rows p) s q c (parts_of rows is_key schema keys is_hole p.0 p.1 w.0 free).0 e
@@ -192,7 +192,7 @@ module _ (h : List ℕ → List ℕ) (rows : List Row) (is_key : ℕ → List �
     held_by by_set t = held_as rows is_key schema keys (m.0).0 (set_part (seen rows m.0) m.1 w) (set_part-seen rows (m.0).0 (m.0).1 m.1 w) t
     held_by by_insert t = held_as rows is_key schema keys (m.0).0 (insert_part (seen rows m.0) m.1 w) (insert_part-seen rows (m.0).0 (m.0).1 m.1 w) t
 
-    came_at : (test : Option TypeDef → Value → Bool) → IsFree test rows p.0 p.1 → IsFree test rows (m.0).0 (value_of K) ↔ (Passes test rows (m.0).0 K × IsFree test rows slot w)
+    came_at : (test : Option TypeDef → Value → Bool) → IsFree test rows p.0 p.1 → IsFree test rows (m.0).0 (value_of K) ↔ (LayerPasses test rows (m.0).0 K × IsFree test rows slot w)
     came_at test free = let x = at_m test free in came rows is_key schema keys test how m.0 m.1 slot w (x.0).0 x.1 there stands new
 
     came_down : (test : Option TypeDef → Value → Bool) → IsFree test rows p.0 p.1 → IsFree test rows p.0 C → IsFree test rows slot w

@@ -13,7 +13,7 @@ use Rattle.ild_typed.specs.Schema.{IsSchema}
 use Rattle.ild_typed.specs.Segment.{part, set_part}
 use Rattle.ild_value_meaning.proofs.Told.{told}
 use Rattle.ild_value_meaning.proofs.TypedByParts.{to_parts}
-use Rattle.ild_path_edits.specs.Along.{IsFree, Passes}
+use Rattle.ild_path_edits.specs.Along.{IsFree, LayerPasses}
 use Rattle.ild_path_edits.specs.Table.{slot_to_insert, MayStand, insert_part, refusal_to_delete, delete_part}
 use Rattle.ild_path_edits.proofs.HeldTyped.{IsHeld, held}
 use Rattle.ild_path_edits.proofs.KeepTyped.{of_type_is_kept}
@@ -43,18 +43,18 @@ module _ (rows : List Row) (is_key : ℕ → List ℕ → Bool) (schema : IsSche
     abbrev pub Free : InSlot → Type 0
     Free p = IsFree test rows p.0 p.1
 
-    pub parts_of : (slot : Slot) (v : Value) → OfType rows slot v → IsFree test rows slot v → Passes test rows slot (holder_of rows slot v) × PartsFree test rows (holder_of rows slot v)
+    pub parts_of : (slot : Slot) (v : Value) → OfType rows slot v → IsFree test rows slot v → LayerPasses test rows slot (holder_of rows slot v) × PartsFree test rows (holder_of rows slot v)
     parts_of slot v is a = parts_seen test rows is_key slot v (to_parts rows is_key keys v slot is) a
 
-    whole_of : (slot : Slot) (k : Holder) → HeldBy slot k → Passes test rows slot k → PartsFree test rows k → IsFree test rows slot (value_of k)
+    whole_of : (slot : Slot) (k : Holder) → HeldBy slot k → LayerPasses test rows slot k → PartsFree test rows k → IsFree test rows slot (value_of k)
     whole_of slot k h o a = from_parts test rows is_key (told rows schema).apart (told rows schema).any_there slot k h o a
 
     -- a holder seen again
-    seen_parts : (slot : Slot) (k : Holder) → holder_of rows slot (value_of k) ≡ k → OfType rows slot (value_of k) → IsFree test rows slot (value_of k) → Passes test rows slot k × PartsFree test rows k
-    seen_parts slot k same is a = subst (λ k. Passes test rows slot k × PartsFree test rows k) same (parts_of slot (value_of k) is a)
+    seen_parts : (slot : Slot) (k : Holder) → holder_of rows slot (value_of k) ≡ k → OfType rows slot (value_of k) → IsFree test rows slot (value_of k) → LayerPasses test rows slot k × PartsFree test rows k
+    seen_parts slot k same is a = subst (λ k. LayerPasses test rows slot k × PartsFree test rows k) same (parts_of slot (value_of k) is a)
 
     pub inserted : (p : InSlot) (s : List ℕ) (slot : Slot) (w : Value) → Of p → Free p → slot_to_insert (seen rows p) s ≡ Some slot → MayStand is_key (seen rows p) s → OfType rows slot w
-        → IsFree test rows p.0 (value_of (insert_part (seen rows p) s w)) ↔ (Passes test rows p.0 (insert_part (seen rows p) s w) × IsFree test rows slot w)
+        → IsFree test rows p.0 (value_of (insert_part (seen rows p) s w)) ↔ (LayerPasses test rows p.0 (insert_part (seen rows p) s w) × IsFree test rows slot w)
     inserted p s slot w is free e stands new =
         let k = insert_part (seen rows p) s w in
         let same = insert_part-seen rows p.0 p.1 s w in
@@ -66,12 +66,12 @@ module _ (rows : List Row) (is_key : ℕ → List ℕ → Bool) (schema : IsSche
         )
 
     pub came : (how : Coming) (p : InSlot) (s : List ℕ) (slot : Slot) (w : Value) → Of p → Free p → slot_for how (seen rows p) s ≡ Some slot → MayStand is_key (seen rows p) s → OfType rows slot w
-        → IsFree test rows p.0 (value_of (brought how w (seen rows p) s)) ↔ (Passes test rows p.0 (brought how w (seen rows p) s) × IsFree test rows slot w)
+        → IsFree test rows p.0 (value_of (brought how w (seen rows p) s)) ↔ (LayerPasses test rows p.0 (brought how w (seen rows p) s) × IsFree test rows slot w)
     came by_set p s slot w is free e stands new = set_is_judged rows is_key test schema keys p s slot w is free e stands new
     came by_insert p s slot w is free e stands new = inserted p s slot w is free e stands new
 
     pub went : (p : InSlot) (s : List ℕ) → Of p → Free p → refusal_to_delete (seen rows p) s ≡ None
-        → IsFree test rows p.0 (value_of (delete_part (seen rows p) s)) ↔ Passes test rows p.0 (delete_part (seen rows p) s)
+        → IsFree test rows p.0 (value_of (delete_part (seen rows p) s)) ↔ LayerPasses test rows p.0 (delete_part (seen rows p) s)
     went p s is free e =
         let k = delete_part (seen rows p) s in
         let same = delete_part-seen rows p.0 p.1 s in
@@ -82,5 +82,5 @@ module _ (rows : List Row) (is_key : ℕ → List ℕ → Bool) (schema : IsSche
 
     -- a part that is there, replaced
     pub replaced : (p q : InSlot) (s : List ℕ) (c : Value) → Of p → Free p → part (seen rows p) s ≡ Some q → OfType rows q.0 c
-        → IsFree test rows p.0 (value_of (set_part (seen rows p) s c)) ↔ (Passes test rows p.0 (set_part (seen rows p) s c) × IsFree test rows q.0 c)
+        → IsFree test rows p.0 (value_of (set_part (seen rows p) s c)) ↔ (LayerPasses test rows p.0 (set_part (seen rows p) s c) × IsFree test rows q.0 c)
     replaced p q s c is free e new = set_is_judged rows is_key test schema keys p s q.0 c is free (kept.slots p q s is e) (kept.there p q s is e) new

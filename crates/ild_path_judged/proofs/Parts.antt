@@ -24,7 +24,7 @@ use Rattle.ild_typed.specs.Slots.{element_of, fields_of, member_of, slot_of}
 use Rattle.ild_value_meaning.proofs.ByParts.{ByParts}
 use Rattle.ild_value_meaning.proofs.Members.{member-named}
 use Rattle.ild_value_meaning.proofs.Told.{AreToldApart}
-use Rattle.ild_path_edits.specs.Along.{IsFree, Passes}
+use Rattle.ild_path_edits.specs.Along.{IsFree, LayerPasses}
 use Rattle.ild_path_edits.specs.Table.{declared_slot, slot_to_set, new_index, slot_to_insert, insert_part, delete_part}
 use Rattle.ild_path_edits.proofs.HeldTyped.{IsHeld, IsBare, with_slot, inside_any, indexed, slot_given}
 use Rattle.ild_path_edits.proofs.Typing.{Each, each_got, each_with, each_inserted, each_removed, each_at, each_by, each_without, each_found}
@@ -99,7 +99,7 @@ module _ (test : Option TypeDef → Value → Bool) (rows : List Row) where
   -- ---- a value and its holder
 
   -- its own test, seen as that of the holder
-  own_of : (slot : Slot) (k : Holder) → test (form_of rows slot) (value_of k) ≡ false → Passes test rows slot k
+  own_of : (slot : Slot) (k : Holder) → test (form_of rows slot) (value_of k) ≡ false → LayerPasses test rows slot k
   own_of slot (fields fs os) a = a
   own_of slot (member ms n v) a = a
   own_of slot (entries key elem paired ps) a = a
@@ -108,7 +108,7 @@ module _ (test : Option TypeDef → Value → Bool) (rows : List Row) where
   own_of slot (any_elements ds) a = tt
   own_of slot (nothing v) a = tt
 
-  own_seen : (slot : Slot) (v : Value) → test (form_of rows slot) v ≡ false → Passes test rows slot (seen rows (slot, v))
+  own_seen : (slot : Slot) (v : Value) → test (form_of rows slot) v ≡ false → LayerPasses test rows slot (seen rows (slot, v))
   own_seen slot v a = own_of slot (seen rows (slot, v)) (ap (test (form_of rows slot)) (holder_back rows slot v) ∙ a)
 
   member_parts : (o : Option Member) (v : Value) → option_map_or (λ u. some_layer test rows u v) (option_map slot_of o) false ≡ false → IfSome o (λ m. Free (plainly m.ty) v)
@@ -119,7 +119,7 @@ module _ (test : Option TypeDef → Value → Bool) (rows : List Row) where
   parts_member None v a = refl
   parts_member (Some m) v a = a
 
-  pub parts_seen : (is_key : ℕ → List ℕ → Bool) (slot : Slot) (v : Value) → ByParts rows is_key slot v → Free slot v → Passes test rows slot (seen rows (slot, v)) × PartsFree (seen rows (slot, v))
+  pub parts_seen : (is_key : ℕ → List ℕ → Bool) (slot : Slot) (v : Value) → ByParts rows is_key slot v → Free slot v → LayerPasses test rows slot (seen rows (slot, v)) × PartsFree (seen rows (slot, v))
   parts_seen is_key slot V.null t a = (tt, tt)
   parts_seen is_key slot (V.boolean b) t a = (tt, tt)
   parts_seen is_key slot (V.integer n) t a = (tt, tt)
@@ -178,7 +178,7 @@ module _ (test : Option TypeDef → Value → Bool) (rows : List Row) where
     abbrev Held : Slot → Holder → Type 0
     Held slot k = IsHeld rows is_key apart any_there slot k
 
-    pub from_parts : (slot : Slot) (k : Holder) → Held slot k → Passes test rows slot k → PartsFree k → Free slot (value_of k)
+    pub from_parts : (slot : Slot) (k : Holder) → Held slot k → LayerPasses test rows slot k → PartsFree k → Free slot (value_of k)
     from_parts slot (fields fs os) t o a =
         both_false (test (form_of rows slot) (V.struct (optionals_of os))) (some_field test rows (fields_of (form_of rows slot)) (optionals_of os)) o
         (subst (λ G. some_field test rows (fields_of G) (optionals_of os) ≡ false) (sym t.1) (each_fields (t.0).fields os (subst (λ gs. EachFree gs os) t.2 a)))

@@ -2,7 +2,7 @@
 use Rattle.std.proofs.Common.{◌≡◌, Bool, true, false, cond, not, Option, Some, None, refl, sym, ◌∙◌, ap, subst}
 use Rattle.std.specs.Prelude.{is_some}
 use Rattle.std.proofs.lemmas.Option.{none-some}
-use Rattle.ild_cbor.specs.Nodes.{Stands}
+use Rattle.ild_cbor.specs.Nodes.{HasData}
 use Rattle.ild_cbor.specs.declared.node.Node.{Node}
 use Rattle.ild_data.specs.Data.{Data}
 use Rattle.ild_path_changes.specs.Places.{left_out, written}
@@ -24,7 +24,7 @@ not_left : (x : Data) (b : Bool) → not b ≡ is_some (cond b None (Some x))
 not_left x true = refl
 not_left x false = refl
 
-pub written_new : (g : Field) (o : Option Node) (n : Node) (d : Option Data) (b : Bool) → o ≡ Some n → NewIs o d → ((x : Data) → Stands n x → b ≡ left_out g x) → not b ≡ is_some (written left_out g d)
+pub written_new : (g : Field) (o : Option Node) (n : Node) (d : Option Data) (b : Bool) → o ≡ Some n → NewIs o d → ((x : Data) → HasData n x → b ≡ left_out g x) → not b ≡ is_some (written left_out g d)
 written_new g o n d b e h is = by d (subst (λ p. NewIs p d) e h) where
   by : (d : Option Data) → NewIs (Some n) d → not b ≡ is_some (written left_out g d)
   by None h = absurd h

@@ -2,7 +2,7 @@
 use Rattle.std.proofs.Common.{◌≡◌, ◌≤◌, ◌<◌, ◌^◌, ℕ, List, true, false, length, slice_get, Bool, cond, codes, Option, Some, None, refl, sym, ◌∙◌, ap, subst, arith}
 use Rattle.std.specs.Prelude.{MatchOption, is_some, nat_le}
 use Rattle.std.proofs.lemmas.Option.{same_Some, none-some}
-use Rattle.ild_cbor.specs.Nodes.{Finds, Stands}
+use Rattle.ild_cbor.specs.Nodes.{Finds, HasData}
 use Rattle.ild_cbor.specs.Scalar.{count_of}
 use Rattle.ild_cbor.specs.Span.{item_of, place_of}
 use Rattle.ild_cbor.specs.declared.node.Node.{Node}
@@ -44,14 +44,14 @@ up_to_is n i (Some j) h = by (nat_le j n) refl h where
       (h, omega (arith, same, small))
 
 module _ (rows : List Row) (p : Piece) (ds : List Data) (stands : StandsFor rows p (T.list (items_of ds))) where
-  pub item_there : (n : Node) (i : ℕ) (r : Option Node) → p ≡ Q.Node n → ((t : Data) → Stands n t → Finds n (place_of t i) (item_of t i) r) → is_some r ≡ is_some (slice_get ds i)
+  pub item_there : (n : Node) (i : ℕ) (r : Option Node) → p ≡ Q.Node n → ((t : Data) → HasData n t → Finds n (place_of t i) (item_of t i) r) → is_some r ≡ is_some (slice_get ds i)
   item_there n i r is finds =
-      let at : Stands n (T.list (items_of ds)) = subst (λ q. StandsFor rows q (T.list (items_of ds))) is stands in
+      let at : HasData n (T.list (items_of ds)) = subst (λ q. StandsFor rows q (T.list (items_of ds))) is stands in
       found_is n (place_of (T.list (items_of ds)) i) (item_of (T.list (items_of ds)) i) r (finds (T.list (items_of ds)) at) ∙ ap (λ xs. is_some (slice_get xs i)) (items_list-items_of ds)
 
-  pub counted : (n : Node) (r : Option ℕ) → p ≡ Q.Node n → ((t : Data) → Stands n t → r ≡ count_of t) → r ≡ Some (length ds)
+  pub counted : (n : Node) (r : Option ℕ) → p ≡ Q.Node n → ((t : Data) → HasData n t → r ≡ count_of t) → r ≡ Some (length ds)
   counted n r is counts =
-      let at : Stands n (T.list (items_of ds)) = subst (λ q. StandsFor rows q (T.list (items_of ds))) is stands in
+      let at : HasData n (T.list (items_of ds)) = subst (λ q. StandsFor rows q (T.list (items_of ds))) is stands in
       counts (T.list (items_of ds)) at ∙ ap Some (length-items ds)
 
   few : length ds < 2 ^ 64

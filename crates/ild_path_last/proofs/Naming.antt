@@ -36,7 +36,7 @@ use Rattle.ild_typed.specs.Represented.{represented}
 use Rattle.ild_typed.specs.Strings.{members_in}
 use Rattle.ild_path_steps.proofs.Holding.{Held, held_by, of_any, of_elements, of_entries, of_fields, of_member, of_nothing}
 use Rattle.ild_path_steps.proofs.Leading.{field_counted, field_number}
-use Rattle.ild_path_last.specs.Change.{ChangesEntry, ChangesField, IsShown, Makes, is_named, located}
+use Rattle.ild_path_last.specs.Change.{ChangesEntry, ChangesField, IsShown, PartBecomes, is_named, located}
 use Rattle.ild_path_last.specs.declared.change.LastChange.{LastChange}
 use Rattle.ild_path_last.specs.declared.change.LastChange.TheVariants as C
 
@@ -62,18 +62,18 @@ struct_in z (D.Struct r) = r
 struct_in z d = z
 
 module _ (rows : List Row) (slot : Slot) (f : Value) (t : Data) (s : List ℕ) (new : Slot → Option Data) (d x u : Option Data) (made : represented alone rows slot f ≡ Some t) (parts : is_named (seen rows (slot, f)) ≡ true)
-    (makes : Makes (seen rows (slot, f)) s new d) (def : TypeDef) (known : form_of rows slot ≡ Some def) (r : LastChange)
+    (makes : PartBecomes (seen rows (slot, f)) s new d) (def : TypeDef) (known : form_of rows slot ≡ Some def) (r : LastChange)
   where
     abbrev pub Is : Holder → Type 0
     Is h = named_last (form_of rows slot) (represented alone rows) h s new u ≡ located r x u
 
-    at_holder : (h : Holder) → seen rows (slot, f) ≡ h → (is_named h ≡ true → Makes h s new d → Is h) → Is (seen rows (slot, f))
-    at_holder h is given = subst Is (sym is) (given (subst (λ k. is_named k ≡ true) is parts) (subst (λ k. Makes k s new d) is makes))
+    at_holder : (h : Holder) → seen rows (slot, f) ≡ h → (is_named h ≡ true → PartBecomes h s new d → Is h) → Is (seen rows (slot, f))
+    at_holder h is given = subst Is (sym is) (given (subst (λ k. is_named k ≡ true) is parts) (subst (λ k. PartBecomes k s new d) is makes))
 
     nothing_named : (v : Value) → seen rows (slot, f) ≡ nothing v → Is (seen rows (slot, f))
     nothing_named v is = at_holder (nothing v) is (λ n m. never_true n)
 
-    inside : (y : Data) → at_key s (option_and_then (value_at s) (members_in y)) d ≡ located r x u → is_named (any_holder y) ≡ true → Makes (any_holder y) s new d → Is (any_holder y)
+    inside : (y : Data) → at_key s (option_and_then (value_at s) (members_in y)) d ≡ located r x u → is_named (any_holder y) ≡ true → PartBecomes (any_holder y) s new d → Is (any_holder y)
     inside (T.map ms) given n m = ap (at_key s (value_at s (members_list ms))) m ∙ given
     inside T.null given n m = never_true n
     inside (T.boolean b) given n m = never_true n

@@ -15,10 +15,10 @@ use Rattle.ild_schema.specs.Clear.{AreNamesApart}
 use Rattle.ild_schema.specs.Marks.{field_text}
 use Rattle.ild_schema.specs.declared.def.Field.{Field}
 use Rattle.ild_typed.specs.Fields.{field_entries}
-use Rattle.ild_path_last.specs.inside.Seats.{HasPairs, IsSeat, Passes}
+use Rattle.ild_path_last.specs.inside.Seats.{HasPairs, IsSeat, SeatIsBehind}
 use Rattle.ild_path_last.proofs.Seeking.{few_pairs, seat_of}
 
-no_pass : {A : Type 0} (k : List ℕ) (es : List (List ℕ × Data)) (t : Items) → value_at k es ≡ None → Passes k es (Some t) → A
+no_pass : {A : Type 0} (k : List ℕ) (es : List (List ℕ × Data)) (t : Items) → value_at k es ≡ None → SeatIsBehind k es (Some t) → A
 no_pass k [] t h p = absurd p
 no_pass k (e ∷ es) t h p = absurd (none-some e.1 (sym h ∙ ap (λ b. cond b (Some e.1) (value_at k es)) p.0))
 
@@ -27,11 +27,11 @@ own_false {A = A} k h = differ (sym (own_text k) ∙ h) where
   differ : true ≡ false → A
   differ p = absurd cc
 
-none_written : (k : List ℕ) (w : Option Data) (rest : List (List ℕ × Data)) → Passes k (pair_if k w ++ rest) None → false ≡ is_some w
+none_written : (k : List ℕ) (w : Option Data) (rest : List (List ℕ × Data)) → SeatIsBehind k (pair_if k w ++ rest) None → false ≡ is_some w
 none_written k None rest p = refl
 none_written k (Some y) rest p = own_false k p
 
-some_written : (k : List ℕ) (es : List (List ℕ × Data)) (t : Items) (w : Option Data) → value_at k es ≡ w → Passes k es (Some t) → true ≡ is_some w
+some_written : (k : List ℕ) (es : List (List ℕ × Data)) (t : Items) (w : Option Data) → value_at k es ≡ w → SeatIsBehind k es (Some t) → true ≡ is_some w
 some_written k es t None e p = no_pass k es t e p
 some_written k es t (Some y) e p = refl
 
@@ -69,7 +69,7 @@ module _ (k : List ℕ) (g : Field) (before number : ℕ) (held : Option Data) w
         written-at left_out f.name (f ∷ fs) (o ∷ ds) f apart (ap (λ b. cond b (Some f) (field_named f.name fs)) (own_text f.name))
         ∙ ap (λ b. written left_out f (cond b o (field_data f.name fs ds))) (own_text f.name)
 
-    goes : (w : Option Data) (r : Option Items) → written left_out f o ≡ w → same_text k f.name ≡ false → Walks (f ∷ fs) (o ∷ ds) i n s → Passes (field_text f) (pair_if (field_text f) w ++ written_entries left_out fs ds) r
+    goes : (w : Option Data) (r : Option Items) → written left_out f o ≡ w → same_text k f.name ≡ false → Walks (f ∷ fs) (o ∷ ds) i n s → SeatIsBehind (field_text f) (pair_if (field_text f) w ++ written_entries left_out fs ds) r
         → value_at (field_text f) (pair_if (field_text f) w ++ written_entries left_out fs ds) ≡ w → After fs ds (suc i) n s r
     goes None None is apart_name at p v =
         let none : cond (same_text k f.name) 0 (length (pair_if (field_text f) (written left_out f o)) + written_before left_out k fs ds) ≡ 0 + written_before left_out k fs ds =
@@ -109,21 +109,21 @@ module _ (k : List ℕ) (g : Field) (before number : ℕ) (held : Option Data) w
           same = omega (arith, same);
         }
 
-    over : (r : Option Items) → Walks (f ∷ fs) (o ∷ ds) i n s → i < number → ((es : List (List ℕ × Data)) → HasPairs s es → Passes (field_text f) es r) → After fs ds (suc i) n s r
+    over : (r : Option Items) → Walks (f ∷ fs) (o ∷ ds) i n s → i < number → ((es : List (List ℕ × Data)) → HasPairs s es → SeatIsBehind (field_text f) es r) → After fs ds (suc i) n s r
     over r at less passes =
         goes (written left_out f o) r refl (other at less) at (passes (written_entries left_out (f ∷ fs) (o ∷ ds)) at.left) (own_value at.apart)
 
   module _ (all : List Field) (os : List (Option Data)) (i n : ℕ) (s : Items) (f : Field) (name : List ℕ) (r : Option Items) where
     pub next : Walks (drop i all) (drop i os) i n s → i < number → i < length all → length all ≡ length os → f ≡ get_or all i f → name ≡ field_text f
-        → ((es : List (List ℕ × Data)) → HasPairs s es → Passes name es r) → After (drop (i + 1) all) (drop (i + 1) os) (i + 1) n s r
+        → ((es : List (List ℕ × Data)) → HasPairs s es → SeatIsBehind name es r) → After (drop (i + 1) all) (drop (i + 1) os) (i + 1) n s r
     next at less within same is called passes =
         let fs : drop i all ≡ f ∷ drop (suc i) all = drop_first all i f within ∙ ap (λ x. x ∷ drop (suc i) all) (sym is) in
         let ds : drop i os ≡ get_or os i None ∷ drop (suc i) os = drop_first os i None (omega (arith, within, same)) in
         let here : Walks (f ∷ drop (suc i) all) (get_or os i None ∷ drop (suc i) os) i n s = subst (λ x. Walks x (get_or os i None ∷ drop (suc i) os) i n s) fs (subst (λ x. Walks (drop i all) x i n s) ds at) in
         let one : suc i ≡ i + 1 = omega arith in
-        subst (λ j. After (drop j all) (drop j os) j n s r) one (over f (drop (suc i) all) (get_or os i None) (drop (suc i) os) i n s r here less (λ es h. subst (λ x. Passes x es r) called (passes es h)))
+        subst (λ j. After (drop j all) (drop j os) j n s r) one (over f (drop (suc i) all) (get_or os i None) (drop (suc i) os) i n s r here less (λ es h. subst (λ x. SeatIsBehind x es r) called (passes es h)))
 
-  pub ends_there : (fs : List Field) (ds : List (Option Data)) (i n : ℕ) (s t : Items) → Walks fs ds i n s → number ≤ i → ((es : List (List ℕ × Data)) → HasPairs s es → Passes (field_text g) es (Some t)) → IsSeat (seat_of n true) before (written left_out g held)
+  pub ends_there : (fs : List Field) (ds : List (Option Data)) (i n : ℕ) (s t : Items) → Walks fs ds i n s → number ≤ i → ((es : List (List ℕ × Data)) → HasPairs s es → SeatIsBehind (field_text g) es (Some t)) → IsSeat (seat_of n true) before (written left_out g held)
   ends_there [] ds i n s t at less passes = absurd (none-some g at.named)
   ends_there (f ∷ fs) [] i n s t at less passes = absurd (omega (arith, at.same))
   ends_there (f ∷ fs) (o ∷ ds) i n s t at less passes = by (same_text k f.name) refl at.count at.place where
@@ -137,7 +137,7 @@ module _ (k : List ℕ) (g : Field) (before number : ℕ) (held : Option Data) w
         }
     by false e count place = absurd (omega (arith, place, less))
 
-  pub ends_gone : (fs : List Field) (ds : List (Option Data)) (i n : ℕ) (s : Items) → Walks fs ds i n s → number ≤ i → ((es : List (List ℕ × Data)) → HasPairs s es → Passes (field_text g) es None) → IsSeat (seat_of n false) before (written left_out g held)
+  pub ends_gone : (fs : List Field) (ds : List (Option Data)) (i n : ℕ) (s : Items) → Walks fs ds i n s → number ≤ i → ((es : List (List ℕ × Data)) → HasPairs s es → SeatIsBehind (field_text g) es None) → IsSeat (seat_of n false) before (written left_out g held)
   ends_gone [] ds i n s at less passes = absurd (none-some g at.named)
   ends_gone (f ∷ fs) [] i n s at less passes = absurd (omega (arith, at.same))
   ends_gone (f ∷ fs) (o ∷ ds) i n s at less passes = by (same_text k f.name) refl at.count at.place at.named at.held_is where
@@ -145,8 +145,8 @@ module _ (k : List ℕ) (g : Field) (before number : ℕ) (held : Option Data) w
         → cond b (Some f) (field_named k fs) ≡ Some g → cond b o (field_data k fs ds) ≡ held → IsSeat (seat_of n false) before (written left_out g held)
     by true e count place named held_is =
         let is : f ≡ g = same_Some f g named in
-        let own : Passes (field_text f) (pair_if (field_text f) (written left_out f o) ++ written_entries left_out fs ds) None =
-        subst (λ x. Passes (field_text x) (pair_if (field_text f) (written left_out f o) ++ written_entries left_out fs ds) None) (sym is) (passes (written_entries left_out (f ∷ fs) (o ∷ ds)) at.left) in
+        let own : SeatIsBehind (field_text f) (pair_if (field_text f) (written left_out f o) ++ written_entries left_out fs ds) None =
+        subst (λ x. SeatIsBehind (field_text x) (pair_if (field_text f) (written left_out f o) ++ written_entries left_out fs ds) None) (sym is) (passes (written_entries left_out (f ∷ fs) (o ∷ ds)) at.left) in
         record {
           place_is = omega (arith, count);
           there_is = none_written (field_text f) (written left_out f o) (written_entries left_out fs ds) own ∙ (λ j. is_some (written left_out (is j) (held_is j)));

@@ -1,7 +1,7 @@
 -- The place of a key among pairs, of which the first ones have other keys.
 use Rattle.std.proofs.Common.{◌≡◌, ◌≤◌, ◌+◌, ◌-◌, ◌^◌, min, ℕ, suc, List, [], ◌∷◌, Bool, true, false, cond, length, map, Some, None, refl, sym, ◌∙◌, ap, subst, arith}
 use Rattle.std.specs.Prelude.{is_some}
-use Rattle.ild_cbor.specs.Nodes.{Stands}
+use Rattle.ild_cbor.specs.Nodes.{HasData}
 use Rattle.ild_cbor.specs.Steps.{HasItems, ItemsGive}
 use Rattle.ild_cbor.specs.declared.items.Items.{Items}
 use Rattle.ild_cbor.specs.declared.node.Node.{Node}
@@ -14,7 +14,7 @@ use Rattle.ild_path_changes.specs.Places.{place_of}
 use Rattle.ild_layer_piece.specs.Entries.{Lists}
 use Rattle.ild_typed.specs.Named.{items_in}
 use Rattle.ild_typed.specs.Strings.{listpairs, pair_data}
-use Rattle.ild_path_last.specs.inside.Seats.{HasPairs, IsSeat, Passes}
+use Rattle.ild_path_last.specs.inside.Seats.{HasPairs, IsSeat, SeatIsBehind}
 use Rattle.ild_path_last.specs.declared.seat.Seat.{Seat}
 
 abbrev pub seat_of : ℕ → Bool → Seat
@@ -42,7 +42,7 @@ pub begins : (k : List ℕ) (es : List (List ℕ × Data)) (s : Items) → HasPa
 begins k es s h = let few = few_pairs es s h in record { rest = es; left = h; there = refl; place = omega arith; short = omega (arith, few) }
 
 module _ (k : List ℕ) (es : List (List ℕ × Data)) (n : ℕ) (s t : Items) (item : Node) (b : Bool) (seek : Seeking k es n s) (gives : ItemsGive s (Some item) t)
-    (keyed : (e : List ℕ × Data) → Stands item (pair_data e) → b ≡ same_text k e.0)
+    (keyed : (e : List ℕ × Data) → HasData item (pair_data e) → b ≡ same_text k e.0)
   where
     pub found : b ≡ true → IsSeat (seat_of n true) (place_of k es) (value_at k es)
     found e = by seek.rest seek.left seek.there seek.place where
@@ -80,18 +80,18 @@ ends k es n s t seek gives = by seek.rest seek.left seek.there seek.place where
 
 -- ---- the first pair
 
-module _ (k : List ℕ) (s t : Items) (item : Node) (b : Bool) (gives : ItemsGive s (Some item) t) (keyed : (e : List ℕ × Data) → Stands item (pair_data e) → b ≡ same_text k e.0) where
-  pub passed : b ≡ true → (es : List (List ℕ × Data)) → HasPairs s es → Passes k es (Some t)
+module _ (k : List ℕ) (s t : Items) (item : Node) (b : Bool) (gives : ItemsGive s (Some item) t) (keyed : (e : List ℕ × Data) → HasData item (pair_data e) → b ≡ same_text k e.0) where
+  pub passed : b ≡ true → (es : List (List ℕ × Data)) → HasPairs s es → SeatIsBehind k es (Some t)
   passed is [] h = absurd (gives T.no_items h)
   passed is (e ∷ es) h =
       let step = gives (T.item (pair_data e) (T.items_of (map pair_data es))) h in
       (sym (keyed e step.stands) ∙ is, step.left)
 
-  pub not_passed : b ≡ false → (es : List (List ℕ × Data)) → HasPairs s es → Passes k es None
+  pub not_passed : b ≡ false → (es : List (List ℕ × Data)) → HasPairs s es → SeatIsBehind k es None
   not_passed is [] h = absurd (gives T.no_items h)
   not_passed is (e ∷ es) h = let step = gives (T.item (pair_data e) (T.items_of (map pair_data es))) h in sym (keyed e step.stands) ∙ is
 
-pub none_passed : (k : List ℕ) (s t : Items) → ItemsGive s None t → (es : List (List ℕ × Data)) → HasPairs s es → Passes k es None
+pub none_passed : (k : List ℕ) (s t : Items) → ItemsGive s None t → (es : List (List ℕ × Data)) → HasPairs s es → SeatIsBehind k es None
 none_passed k s t gives [] h = tt
 none_passed k s t gives (e ∷ es) h = absurd (gives (T.item (pair_data e) (T.items_of (map pair_data es))) h)
 

@@ -29,7 +29,7 @@ use Rattle.ild_path_steps.proofs.Holding.{Held, of_any, of_elements, of_entries,
 use Rattle.ild_path_steps.proofs.Leading.{each-long}
 use Rattle.ild_path_steps.proofs.Listing.{items_few, within_list}
 use Rattle.ild_path_steps.specs.declared.steps.PartSteps.TheVariants as P
-use Rattle.ild_path_last.specs.Change.{Makes, Tells, is_named, located}
+use Rattle.ild_path_last.specs.Change.{PartBecomes, Tells, is_named, located}
 use Rattle.ild_path_last.specs.declared.change.LastChange.{LastChange}
 use Rattle.ild_path_last.specs.declared.change.LastChange.TheVariants as C
 
@@ -207,7 +207,7 @@ absent_key slot part None h = same_Some slot part h
 -- what an edit is in such a holder
 pub record ByName (F : Option TypeDef) (f : Slot → Value → Option Data) (h : Holder) (s : List ℕ) (new : Slot → Option Data) (d u : Option Data) (e : Located) : Type 0 where
   pub parts : is_named h ≡ true
-  pub makes : Makes h s new d
+  pub makes : PartBecomes h s new d
   pub same : e ≡ named_last F f h s new u
 
 module _ (F : Option TypeDef) (f : Slot → Value → Option Data) (s : List ℕ) (u : Option Data) where

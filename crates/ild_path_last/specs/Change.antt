@@ -1,6 +1,6 @@
 -- What an edit of a last holder changes in the data of the holder.
 use Rattle.std.specs.Prelude.{◌≡◌, ℕ, Bool, true, false, is_some, List, [], Option, Some, None}
-use Rattle.ild_cbor.specs.Nodes.{Stands}
+use Rattle.ild_cbor.specs.Nodes.{HasData}
 use Rattle.ild_cbor.specs.declared.node.Node.{Node}
 use Rattle.ild_splice_changes.specs.TreeChange.{insert_item, insert_entry, remove_item, remove_entry, Located, unchanged, one}
 use Rattle.ild_data.specs.Data.{Data}
@@ -72,7 +72,7 @@ abbrev pub NewIs : Option Node → Option Data → Type 0
 NewIs None None = Unit {0}
 NewIs None (Some x) = ⊥
 NewIs (Some n) None = ⊥
-NewIs (Some n) (Some x) = Stands n x
+NewIs (Some n) (Some x) = HasData n x
 
 -- what is written of the new part is the part
 abbrev pub IsShown : Option Data → Option Data → Type 0
@@ -103,19 +103,19 @@ is_named (any_elements ds) = false
 is_named (nothing v) = false
 
 -- in the slot of the part at s, what comes has these data
-abbrev pub Makes : Holder → List ℕ → (Slot → Option Data) → Option Data → Type 0
-Makes (fields fs os) s new d = (g : Field) → field_named s fs ≡ Some g → new g.slot ≡ d
-Makes (member ms n v) s new d = Unit {0}
-Makes (entries k slot paired ps) s new d = new slot ≡ d
-Makes (elements slot vs) s new d = Unit {0}
-Makes (any_entries ms) s new d = new anything ≡ d
-Makes (any_elements ds) s new d = Unit {0}
-Makes (nothing v) s new d = Unit {0}
+abbrev pub PartBecomes : Holder → List ℕ → (Slot → Option Data) → Option Data → Type 0
+PartBecomes (fields fs os) s new d = (g : Field) → field_named s fs ≡ Some g → new g.slot ≡ d
+PartBecomes (member ms n v) s new d = Unit {0}
+PartBecomes (entries k slot paired ps) s new d = new slot ≡ d
+PartBecomes (elements slot vs) s new d = Unit {0}
+PartBecomes (any_entries ms) s new d = new anything ≡ d
+PartBecomes (any_elements ds) s new d = Unit {0}
+PartBecomes (nothing v) s new d = Unit {0}
 
 abbrev pub ChangesNamed : List Row → (Data → Type 0) → (Option Data → Type 0) → Slot → List ℕ → LastChange → Type 0
 ChangesNamed rows Holds New slot s result =
     (f : Value) (t : Data) (new : Slot → Option Data) (d x u : Option Data) → represented alone rows slot f ≡ Some t
-    → Holds t → is_named (seen rows (slot, f)) ≡ true → Makes (seen rows (slot, f)) s new d → New d → IsShown d x
+    → Holds t → is_named (seen rows (slot, f)) ≡ true → PartBecomes (seen rows (slot, f)) s new d → New d → IsShown d x
     → named_last (form_of rows slot) (represented alone rows) (seen rows (slot, f)) s new u ≡ located result x u
 
 -- in a map of a form with these entries

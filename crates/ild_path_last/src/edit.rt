@@ -1,6 +1,6 @@
 //! The edits of a last holder, verb by verb.
 ghost use Rattle.std.specs.Prelude.{◌<◌, length};
-ghost use Rattle.ild_cbor.specs.Nodes.{Stands};
+ghost use Rattle.ild_cbor.specs.Nodes.{HasData};
 ghost use Rattle.ild_path_last.specs.Change.{DeleteIs, InsertIs, SetIs};
 ghost use Rattle.ild_layer_piece.specs.Pieces.{IsNumbered, StandsFor};
 
@@ -21,7 +21,7 @@ pub fn set_change<'a>(
 ) -> LastChange<'a>
     requires within { slot.ty.0 < length acc.now }
     requires numbered { IsNumbered acc.now piece.now }
-    ensures { SetIs acc.now (StandsFor acc.now piece.now) (Stands new.now) slot segment.now result }
+    ensures { SetIs acc.now (StandsFor acc.now piece.now) (HasData new.now) slot segment.now result }
 {
     if is_listed(acc, slot, piece) {
         item_set(segment)
@@ -40,7 +40,7 @@ pub fn insert_change<'a>(
 ) -> LastChange<'a>
     requires within { slot.ty.0 < length acc.now }
     requires numbered { IsNumbered acc.now piece.now }
-    ensures { InsertIs acc.now (StandsFor acc.now piece.now) (Stands new.now) slot segment.now result }
+    ensures { InsertIs acc.now (StandsFor acc.now piece.now) (HasData new.now) slot segment.now result }
 {
     if is_listed(acc, slot, piece) {
         item_new(piece, segment)

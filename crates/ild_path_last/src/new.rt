@@ -1,6 +1,6 @@
 //! The new part, as far as it tells what is written.
 ghost use Rattle.std.specs.Prelude.{◌≡◌, Option, is_some};
-ghost use Rattle.ild_cbor.specs.Nodes.{Stands};
+ghost use Rattle.ild_cbor.specs.Nodes.{HasData};
 ghost use Rattle.ild_data.specs.Data.{Data};
 ghost use Rattle.ild_path_last.specs.Change.{NewIs};
 ghost use Rattle.ild_path_changes.specs.Places.{left_out, written};

@@ -2,7 +2,7 @@
 ghost use Rattle.std.specs.Prelude.{◌<◌, ℕ, List, Option, Some, length};
 ghost use Rattle.ild_data.specs.Data.{Data};
 ghost use Rattle.ild_data.specs.Key.{value_at};
-ghost use Rattle.ild_path_last.specs.inside.Seats.{ChangesAtKey, ChangesPair, FindsField, HasPairs, IsSeat, Passes};
+ghost use Rattle.ild_path_last.specs.inside.Seats.{ChangesAtKey, ChangesPair, FindsField, HasPairs, IsSeat, SeatIsBehind};
 ghost use Rattle.ild_path_changes.specs.Places.{place_of};
 ghost use Rattle.ild_layer_piece.specs.Pieces.{StandsFor};
 ghost use Rattle.ild_schema.specs.declared.row.Row.{Row};
@@ -54,7 +54,7 @@ pub(crate) fn key_pair_change<'a>(piece: &Piece<'_>, key: &'a str, after: bool) 
 
 // The pairs behind the first one, where that has this key.
 fn behind<'b>(items: Items<'b>, key: &str) -> Option<Items<'b>>
-    ensures { (es : List (List ℕ × Data)) → HasPairs items.entry es → Passes key.now es result }
+    ensures { (es : List (List ℕ × Data)) → HasPairs items.entry es → SeatIsBehind key.now es result }
 {
     let mut left = items;
     match left.next() {

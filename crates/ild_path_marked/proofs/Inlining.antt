@@ -3,7 +3,7 @@ use Rattle.std.proofs.Common.{◌≡◌, ℕ, ◌+◌, ◌-◌, ◌^◌, true, c
 use Rattle.std.specs.Prelude.{Result, is_none, min}
 use Rattle.ild_cbor.specs.declared.kind.Kind.TheVariants as K
 use Rattle.ild_cbor.specs.declared.node.Node.{Node}
-use Rattle.ild_cbor.specs.Nodes.{Stands}
+use Rattle.ild_cbor.specs.Nodes.{HasData}
 use Rattle.ild_cbor.specs.Scalar.{kind_of, count_of}
 use Rattle.ild_cbor.specs.Span.{entry_of}
 use Rattle.ild_splice_changes.specs.TreeChange.{insert_entry, change_here}
@@ -44,8 +44,8 @@ opened key name (T.map ms) e = record {
 }
 opened key name (T.link s) e = absurd cc
 
-pub inlined_tells : (n : Node) (d : Data) (told count : ℕ) (before after key name : List ℕ) (r : Result (Option (List ℕ)) SpliceErr) → Stands n d → has_place key d ≡ true
-    → ((k : ℕ) → count_of d ≡ Some k → told ≡ k) → count ≡ min (told + 1) (2 ^ 64 - 1) → ((ms : T.Members) → Stands n (T.map ms) → AreAroundKey before after key (T.members_list ms))
+pub inlined_tells : (n : Node) (d : Data) (told count : ℕ) (before after key name : List ℕ) (r : Result (Option (List ℕ)) SpliceErr) → HasData n d → has_place key d ≡ true
+    → ((k : ℕ) → count_of d ≡ Some k → told ≡ k) → count ≡ min (told + 1) (2 ^ 64 - 1) → ((ms : T.Members) → HasData n (T.map ms) → AreAroundKey before after key (T.members_list ms))
     → Writes (head 5 count ++ (before ++ (spell_text key ++ (spell_text name ++ (after ++ []))))) r → Tells (marked_form (F.Inline key) d name) r
 inlined_tells n d told count before after key name r stands place tells counted around made =
     let o = opened key name d place in

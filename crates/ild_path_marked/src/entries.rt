@@ -1,6 +1,6 @@
 //! Members in maps: as the value of an entry, or as the entries beside that of the discriminant.
 ghost use Rattle.std.specs.Prelude.{◌≡◌, Some, ℕ};
-ghost use Rattle.ild_cbor.specs.Nodes.{Stands};
+ghost use Rattle.ild_cbor.specs.Nodes.{HasData};
 ghost use Rattle.ild_cbor.specs.Scalar.{count_of};
 ghost use Rattle.ild_data.specs.Data.{Data};
 ghost use Rattle.ild_path_marked.specs.inside.Parts.{has_place};
@@ -18,7 +18,7 @@ use std::cmp::Ordering;
 
 /// A map of one entry, whose key is the discriminant.
 pub(crate) fn keyed(alloc: Global, name: &str, part: &Node<'_>) -> Result<Option<Octets>, SpliceErr>
-    ensures { (d : Data) → Stands part.now d → Tells (marked_form F.Keyed d name.now) result }
+    ensures { (d : Data) → HasData part.now d → Tells (marked_form F.Keyed d name.now) result }
 {
     made(
         alloc,
@@ -38,7 +38,7 @@ pub(crate) fn envelope<'t>(
     name: &'t str,
     part: &Node<'_>,
 ) -> Result<Option<Octets>, SpliceErr>
-    ensures { (d : Data) → Stands part.now d → Tells (marked_form (F.Envelope key.now content.now) d name.now) result }
+    ensures { (d : Data) → HasData part.now d → Tells (marked_form (F.Envelope key.now content.now) d name.now) result }
 {
     let member = Part::Spelled(part.spelling());
     match key_order(key, content) {
@@ -68,7 +68,7 @@ pub(crate) fn envelope<'t>(
 
 // Whether an item is a map without a key.
 fn has_place(part: &Node<'_>, key: &str) -> bool
-    ensures { (d : Data) → Stands part.now d → result ≡ has_place key.now d }
+    ensures { (d : Data) → HasData part.now d → result ≡ has_place key.now d }
 {
     let Kind::Map = part.kind() else {
         return false;
@@ -81,7 +81,7 @@ fn has_place(part: &Node<'_>, key: &str) -> bool
 
 // How many entries a map has.
 fn entry_count(map: &Node<'_>) -> u64
-    ensures { (d : Data) (n : ℕ) → Stands map.now d → count_of d ≡ Some n → result ≡ n }
+    ensures { (d : Data) (n : ℕ) → HasData map.now d → count_of d ≡ Some n → result ≡ n }
 {
     map.count().unwrap_or(0)
 }
@@ -93,7 +93,7 @@ pub(crate) fn inline<'t>(
     name: &'t str,
     part: &Node<'_>,
 ) -> Result<Option<Octets>, SpliceErr>
-    ensures { (d : Data) → Stands part.now d → Tells (marked_form (F.Inline key.now) d name.now) result }
+    ensures { (d : Data) → HasData part.now d → Tells (marked_form (F.Inline key.now) d name.now) result }
 {
     if !has_place(part, key) {
         return Ok(None);

@@ -1,10 +1,10 @@
 //! The item of a union's value, form by form.
 ghost use Rattle.std.specs.Prelude.{◌≡◌, option_map};
-ghost use Rattle.ild_cbor.specs.Nodes.{Stands};
+ghost use Rattle.ild_cbor.specs.Nodes.{HasData};
 ghost use Rattle.ild_data.specs.Data.{Data};
 ghost use Rattle.ild_path_marked.specs.inside.Parts.{is_kinded};
 ghost use Rattle.ild_path_marked.specs.Tells.{Tells};
-ghost use Rattle.ild_schema.specs.Marks.{text_of};
+ghost use Rattle.ild_schema.specs.Marks.{mark_text};
 ghost use Rattle.ild_typed.specs.Composed.{marked_form, member_form, union_form};
 
 use crate::entries::{envelope, inline, keyed};
@@ -26,7 +26,7 @@ pub(crate) fn is_kinded(form: &UnionForm) -> bool
 }
 
 pub(crate) fn text_of(mark: &Mark) -> Option<&str>
-    ensures { option_map (λ s. s.now) result ≡ text_of mark.now }
+    ensures { option_map (λ s. s.now) result ≡ mark_text mark.now }
 {
     match mark {
         Mark::Text(text) => Some(text.as_str()),
@@ -41,7 +41,7 @@ fn of_text(
     name: &str,
     part: &Node<'_>,
 ) -> Result<Option<Octets>, SpliceErr>
-    ensures { (d : Data) → Stands part.now d → Tells (marked_form form.now d name.now) result }
+    ensures { (d : Data) → HasData part.now d → Tells (marked_form form.now d name.now) result }
 {
     match form {
         UnionForm::Keyed => keyed(alloc, name, part),
@@ -61,7 +61,7 @@ fn of_member(
     member: &Member,
     part: &Node<'_>,
 ) -> Result<Option<Octets>, SpliceErr>
-    ensures { (d : Data) → Stands part.now d → Tells (member_form form.now d member.now) result }
+    ensures { (d : Data) → HasData part.now d → Tells (member_form form.now d member.now) result }
 {
     if is_kinded(form) {
         return kinded(alloc, member, part);
@@ -87,7 +87,7 @@ pub fn marked(
     member: usize,
     part: &Node<'_>,
 ) -> Result<Option<Octets>, SpliceErr>
-    ensures { (d : Data) → Stands part.now d → Tells (union_form union.now.form union.now.members (member, d)) result }
+    ensures { (d : Data) → HasData part.now d → Tells (union_form union.now.form union.now.members (member, d)) result }
 {
     match union.members.get(member) {
         Some(member) => of_member(alloc, &union.form, member, part),

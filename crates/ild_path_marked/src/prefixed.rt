@@ -1,6 +1,6 @@
 //! Members that stand behind a prefix, of a text or of bytes.
 ghost use Rattle.std.specs.Prelude.{◌++◌};
-ghost use Rattle.ild_cbor.specs.Nodes.{Stands};
+ghost use Rattle.ild_cbor.specs.Nodes.{HasData};
 ghost use Rattle.ild_data.specs.Data.{Data};
 ghost use Rattle.ild_data.specs.Spell.{spell_bytes, spell_text};
 ghost use Rattle.ild_path_marked.specs.inside.Parts.{behind_hex, hex_bytes};
@@ -41,7 +41,7 @@ pub(crate) fn behind_text(
     name: &str,
     part: &Node<'_>,
 ) -> Result<Option<Octets>, SpliceErr>
-    ensures { (d : Data) → Stands part.now d → Tells (marked_form F.StringPrefix d name.now) result }
+    ensures { (d : Data) → HasData part.now d → Tells (marked_form F.StringPrefix d name.now) result }
 {
     match part.text() {
         Some(text) => text_of(alloc, name, text),
@@ -84,7 +84,7 @@ pub(crate) fn behind_bytes(
     name: &str,
     part: &Node<'_>,
 ) -> Result<Option<Octets>, SpliceErr>
-    ensures { (d : Data) → Stands part.now d → Tells (marked_form F.BytesPrefix d name.now) result }
+    ensures { (d : Data) → HasData part.now d → Tells (marked_form F.BytesPrefix d name.now) result }
 {
     match part.bytes() {
         Some(bytes) => behind_hex(alloc, name, bytes),

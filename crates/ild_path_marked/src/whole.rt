@@ -1,7 +1,7 @@
 //! Members that are told by their kinds.
 ghost use Rattle.std.specs.Prelude.{◌≡◌};
 ghost use Rattle.std.specs.Option.{option_map_or};
-ghost use Rattle.ild_cbor.specs.Nodes.{Stands};
+ghost use Rattle.ild_cbor.specs.Nodes.{HasData};
 ghost use Rattle.ild_data.specs.Data.{Data};
 ghost use Rattle.ild_path_marked.specs.inside.Parts.{is_kind, word_of};
 ghost use Rattle.ild_path_marked.specs.Tells.{Tells};
@@ -54,7 +54,7 @@ pub(crate) fn kinded(
     member: &Member,
     part: &Node<'_>,
 ) -> Result<Option<Octets>, SpliceErr>
-    ensures { (d : Data) → Stands part.now d → Tells (member_form F.Kinded d member.now) result }
+    ensures { (d : Data) → HasData part.now d → Tells (member_form F.Kinded d member.now) result }
 {
     if !is_kind(&member.mark, word_of(part.kind())) {
         return Ok(None);

@@ -4,7 +4,7 @@ use Rattle.std.specs.Prelude.{Result, Err, is_some, ◌||◌}
 use Rattle.std.proofs.Math.Logic.{∥∥₁_elim, ∥∥₁_map}
 use Rattle.std.proofs.Props.{props}
 use Rattle.ild_cbor.specs.Block.{IsBlockOf}
-use Rattle.ild_cbor.specs.Nodes.{IsRoot, Stands}
+use Rattle.ild_cbor.specs.Nodes.{IsRoot, HasData}
 use Rattle.ild_cbor.specs.declared.node.Node.{Node}
 use Rattle.ild_data.specs.Data.{Data, depth}
 use Rattle.ild_data.specs.Spell.{spell}
@@ -73,7 +73,7 @@ module _ (h : List ℕ → List ℕ) (is_key : ℕ → List ℕ → Bool) (rows 
   tree_d = (whole_tree h rows x.schema.table.texts.spelled x.around x.elem x.w x.d x.comes.fits x.comes.tree).tree
 
   -- the item of the new block, and of the entry that is made of it
-  pub item_is : (new : List ℕ) (item : Node) (e : Data) → new ≡ spell x.d → IsBlockOf new e → IsRoot item new e → Stands item x.d
+  pub item_is : (new : List ℕ) (item : Node) (e : Data) → new ≡ spell x.d → IsBlockOf new e → IsRoot item new e → HasData item x.d
   item_is new item e spelled block root = item_stands new item e x.d block root spelled tree_d
 
 -- the level, and what is set in it
@@ -100,8 +100,8 @@ module _ (h : List ℕ → List ℕ) (is_key : ℕ → List ℕ → Bool) (was :
 -- as the setting of an entry says it
 pub sets_in : (h : List ℕ → List ℕ) (view : View) (path : List (List ℕ)) (trail : Trail) (item : Node) (m n : Moment) (r : Result (List ℕ) HamtFault)
     → ((is_key : ℕ → List ℕ → Bool) (was : List (List ℕ)) (room : ℕ) (v w : Value) (t d u : Data) (slot elem : Slot) (ps : Pairs) (es : List (List ℕ × Data)) (k : List ℕ) → m.blocks ≡ Some was → IsLevel h is_key was room v t view
-    → (set : IsSetThere h is_key was room v view path slot elem ps es k w d u trail) → Stands item d → SetsEntry h set.entered.hamt.3 room v path ps es k w d u view m r n)
-    → SetsIn h (table_of view) (slot_of view) view path trail (λ d. Stands item d) m r n
+    → (set : IsSetThere h is_key was room v view path slot elem ps es k w d u trail) → HasData item d → SetsEntry h set.entered.hamt.3 room v path ps es k w d u view m r n)
+    → SetsIn h (table_of view) (slot_of view) view path trail (λ d. HasData item d) m r n
 sets_in h view path trail item m n r sets = λ is_key was k told x root stands.
     sets is_key was x.room x.v x.w x.t x.d x.u x.slot x.elem x.ps x.es k told (step_level h is_key was path k trail view x root) (step_set h is_key was path k trail view x root) stands
 
@@ -150,7 +150,7 @@ leads_entry e path view table slot stands x =
     (subst (λ y. IsRootAt (table_of view) (y, s.value) path) (sym slot) (subst (λ y. IsRootAt y (slot_in e, s.value) path) (sym table) (x s.value e.room s.front))))
 
 -- a value in the room of another
-pub entry_nests : (old new : Entry) (item node : Node) (n : ℕ) → room_in old ≤ n → ((t : Data) → Stands item t → IsEntry (table_in old) (slot_in old) (room_in old) t new) → ((t : Data) → Stands node t → depth t ≤ room_in new) → NestsIn n node
+pub entry_nests : (old new : Entry) (item node : Node) (n : ℕ) → room_in old ≤ n → ((t : Data) → HasData item t → IsEntry (table_in old) (slot_in old) (room_in old) t new) → ((t : Data) → HasData node t → depth t ≤ room_in new) → NestsIn n node
 entry_nests old new item node n low is nests = λ t stands.
     let same : room_in new ≡ room_in old = ∥∥₁_elim item.stands (hlevel props) (λ s. (is s.of s.spells).room_is) in
     let own = nests t stands in

@@ -1,7 +1,7 @@
 //! One level outward.
 ghost use Rattle.ild_hamt.specs.Edits.{CausedBy};
 ghost use Rattle.std.specs.Prelude.{◌≡◌, ◌≤◌, []};
-ghost use Rattle.ild_cbor.specs.Nodes.{Stands};
+ghost use Rattle.ild_cbor.specs.Nodes.{HasData};
 ghost use Rattle.ild_data.specs.Spell.{spell};
 ghost use Rattle.ild_edges.specs.Store.{Moment};
 ghost use Rattle.ild_path_entry.specs.Entry.{room_in};
@@ -37,8 +37,8 @@ pub(crate) fn set_last<'a, K: Store, H: KeyHash>(
     requires nests { NestsIn deepest_value item.now }
     ensures gets { (K.moment store.new).gets ≡ (K.moment store.old).gets }
     ensures caused { CausedBy (K.moment store.old) result (K.moment store.new) }
-    ensures root { hops.now ≡ [] → SetsIn H.hash_of (table_of root.entry) (slot_of root.entry) root.entry front.now trail (λ d. Stands item.now d) (K.moment store.old) result (K.moment store.new) }
-    ensures below { SetsBelow H.hash_of hops.now front.now trail (λ d. Stands item.now d) (K.moment store.old) result (K.moment store.new) }
+    ensures root { hops.now ≡ [] → SetsIn H.hash_of (table_of root.entry) (slot_of root.entry) root.entry front.now trail (λ d. HasData item.now d) (K.moment store.old) result (K.moment store.new) }
+    ensures below { SetsBelow H.hash_of hops.now front.now trail (λ d. HasData item.now d) (K.moment store.old) result (K.moment store.new) }
 {
     match hops.last() {
         Some(hop) => {

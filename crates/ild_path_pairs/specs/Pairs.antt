@@ -42,8 +42,8 @@ text_pair_if k None = []
 text_pair_if k (Some s) = (k, s) ∷ []
 
 -- a borrowed text
-abbrev pub text_of : Option (Bor (List ℕ)) → Option (List ℕ)
-text_of o = option_map (λ s. s.now) o
+abbrev pub borrowed_text : Option (Bor (List ℕ)) → Option (List ℕ)
+borrowed_text o = option_map (λ s. s.now) o
 
 -- the pairs of a text, where it is that of some
 abbrev pub ReadsPairs : List ℕ → List ℕ → List ℕ → Option PairParts → Type 0

@@ -2,7 +2,7 @@
 ghost use Rattle.std.specs.Prelude.{◌≡◌, ◌<◌, Some, length, option_map};
 ghost use Rattle.ild_data.specs.Data as T;
 ghost use Rattle.ild_path_changes.specs.Places.{left_out, written};
-ghost use Rattle.ild_path_pairs.specs.Pairs.{ChangesPair, ReadsPairs, TellsMap, TellsPair, TellsStruct, text_of};
+ghost use Rattle.ild_path_pairs.specs.Pairs.{ChangesPair, ReadsPairs, TellsMap, TellsPair, TellsStruct, borrowed_text};
 
 use crate::place::{Seat, field_seat, key_seat};
 use ild_cbor::Piece;
@@ -40,7 +40,7 @@ fn split<'b>(joined: &Joined<'b>) -> Option<PairParts<'b>>
 
 // The change of the pair at a seat, which has a new value or goes.
 fn pair_change<'a>(seat: Seat, key: &'a str, new: Option<&'a str>) -> Option<PairChange<'a>>
-    ensures { ChangesPair seat key.now (text_of new.entry) result }
+    ensures { ChangesPair seat key.now (borrowed_text new.entry) result }
 {
     let place = seat.place;
     match (seat.there, new) {
@@ -59,7 +59,7 @@ fn with_pair(
     key: &str,
     new: Option<&str>,
 ) -> Result<Option<Txt>, AllocError>
-    ensures { TellsPair joined.now.inner.now joined.now.entry.now joined.now.text.now seat key.now (option_map T.text (text_of new.entry)) result }
+    ensures { TellsPair joined.now.inner.now joined.now.entry.now joined.now.text.now seat key.now (option_map T.text (borrowed_text new.entry)) result }
 {
     match pair_change(seat, key, new) {
         Some(change) => change_pair(alloc, joined.text, joined.inner, joined.entry, change),
@@ -77,7 +77,7 @@ pub(crate) fn map_text(
     key: &str,
     new: Option<&str>,
 ) -> Result<Option<Txt>, AllocError>
-    ensures { TellsMap joined.now.inner.now joined.now.entry.now joined.now.text.now key.now (text_of new.entry) result }
+    ensures { TellsMap joined.now.inner.now joined.now.entry.now joined.now.text.now key.now (borrowed_text new.entry) result }
 {
     match split(joined) {
         Some(split) => with_pair(alloc, joined, key_seat(split, key), key, new),
@@ -87,7 +87,7 @@ pub(crate) fn map_text(
 
 // The new part, where it is written.
 fn written<'n>(field: &Field, new: Option<&'n str>) -> Option<&'n str>
-    ensures { option_map T.text (text_of result) ≡ written left_out field.now (option_map T.text (text_of new.entry)) }
+    ensures { option_map T.text (borrowed_text result) ≡ written left_out field.now (option_map T.text (borrowed_text new.entry)) }
 {
     let text = new?;
     let implicit = is_implicit(field, &Piece::Text(text));
@@ -103,7 +103,7 @@ pub(crate) fn struct_text(
     new: Option<&str>,
 ) -> Result<Option<Txt>, AllocError>
     requires { number < length fields.now }
-    ensures { TellsStruct joined.now.inner.now joined.now.entry.now joined.now.text.now fields.now number (text_of new.entry) result }
+    ensures { TellsStruct joined.now.inner.now joined.now.entry.now joined.now.text.now fields.now number (borrowed_text new.entry) result }
 {
     let field = &fields[number];
     match split(joined) {

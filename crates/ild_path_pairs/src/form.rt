@@ -1,6 +1,6 @@
 //! Maps and structs that stand as texts, by their forms.
 ghost use Rattle.std.specs.Prelude.{◌<◌, length};
-ghost use Rattle.ild_path_pairs.specs.Pairs.{MapGiven, StructGiven, TellsMapForm, TellsStructForm, text_of};
+ghost use Rattle.ild_path_pairs.specs.Pairs.{MapGiven, StructGiven, TellsMapForm, TellsStructForm, borrowed_text};
 
 use crate::change::{Joined, map_text, struct_text};
 use ild_data::Txt;
@@ -16,7 +16,7 @@ pub(crate) fn in_map(
     new: Option<&str>,
 ) -> Result<Option<Txt>, AllocError>
     requires { MapGiven form.now }
-    ensures { TellsMapForm form.now text.now key.now (text_of new.entry) result }
+    ensures { TellsMapForm form.now text.now key.now (borrowed_text new.entry) result }
 {
     match form {
         MapForm::StringPairs(inner, entry) => {
@@ -41,7 +41,7 @@ pub(crate) fn in_struct(
 ) -> Result<Option<Txt>, AllocError>
     requires given { StructGiven def.now.form }
     requires within { number < length def.now.fields }
-    ensures { TellsStructForm def.now text.now number (text_of new.entry) result }
+    ensures { TellsStructForm def.now text.now number (borrowed_text new.entry) result }
 {
     match &def.form {
         StructForm::StringPairs(inner, entry) => {

@@ -2,7 +2,7 @@
 ghost use Rattle.std.specs.Prelude.{◌≡◌, true};
 ghost use Rattle.ild_path_block.specs.Items.{are_pairs};
 ghost use Rattle.ild_path_pairs.specs.Becomes.{AnswersText};
-ghost use Rattle.ild_path_pairs.specs.Pairs.{text_of};
+ghost use Rattle.ild_path_pairs.specs.Pairs.{borrowed_text};
 ghost use Rattle.ild_schema.specs.Slots.{form_of};
 ghost use Rattle.ild_view.specs.View.{slot_of, table_of};
 
@@ -25,7 +25,7 @@ pub fn pairs_text(
     segment: &str,
     new: Option<&str>,
 ) -> Result<Option<Txt>, AllocError>
-    ensures { are_pairs (form_of (table_of view.now) (slot_of view.now)) ≡ true → AnswersText view.now segment.now (text_of new.entry) result }
+    ensures { are_pairs (form_of (table_of view.now) (slot_of view.now)) ≡ true → AnswersText view.now segment.now (borrowed_text new.entry) result }
 {
     let acc = view.schema();
     acc.recall();

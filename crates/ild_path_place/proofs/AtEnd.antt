@@ -11,7 +11,7 @@ use Rattle.ild_open_held.specs.Held.{IsHeld}
 use Rattle.ild_open_held_roots.proofs.Entering.{root_front}
 use Rattle.ild_path_edits.proofs.RoomTests.{schemas_have_tests}
 use Rattle.ild_path_edits.proofs.Stops.{stops_tell}
-use Rattle.ild_path_edits.specs.Stop.{Stop, part_at, stopped}
+use Rattle.ild_path_edits.specs.Stop.{Stop, part_along, stopped}
 use Rattle.ild_path_held.proofs.Holding.{held_parts}
 use Rattle.ild_path_held.specs.HeldEdits.{room_at}
 use Rattle.ild_path_inward.proofs.Hamts.{HamtOf, hamt_of, plain_root, room_less}
@@ -54,9 +54,9 @@ use Rattle.ild_view.specs.View.{IsView, slot_of, table_of}
 use Rattle.ild_view.specs.declared.view.View.{View}
 
 -- a path that leads to a part stops there
-stops_at : (x : Stop) (q : InSlot) → part_at x.part x.left ≡ Some q → x.part ≡ q
+stops_at : (x : Stop) (q : InSlot) → part_along x.part x.left ≡ Some q → x.part ≡ q
 stops_at x q e = by x.part x.left e where
-  by : (p : InSlot) (left : List (List ℕ)) → part_at p left ≡ Some q → p ≡ q
+  by : (p : InSlot) (left : List (List ℕ)) → part_along p left ≡ Some q → p ≡ q
   by p [] e = same_Some p q e
   by p (s ∷ ss) e = absurd (none-some q e)
 

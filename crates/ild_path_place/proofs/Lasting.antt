@@ -4,7 +4,7 @@ use Rattle.std.specs.Prelude.{option_and_then}
 use Rattle.std.specs.Option.{option_map_or}
 use Rattle.std.proofs.lemmas.Option.{none-some, same_Some}
 use Rattle.ild_path_edits.specs.Edit.{change, del_at, del_in, ins_at, new_slot, set_at, unless_kept}
-use Rattle.ild_path_edits.specs.Stop.{Stop, fault_by, fault_in, may_delete, part_at, place_fault, stopped}
+use Rattle.ild_path_edits.specs.Stop.{Stop, fault_by, fault_in, may_delete, part_along, place_fault, stopped}
 use Rattle.ild_path_edits.proofs.Stops.{stops_tell}
 use Rattle.ild_path_edits.specs.Table.{delete_part, refusal_to_delete, slot_to_insert, slot_to_set}
 use Rattle.ild_path_inward.proofs.Inwarding.{stopped_front}
@@ -107,7 +107,7 @@ module _ (rows : List Row) where
     nowhere : (r : InSlot) (y : List ℕ) (ys : List (List ℕ)) → stopped rows p front ≡ record { part = r; left = y ∷ ys } → fault_of p allows path ≡ Some (length front - length (y ∷ ys))
     nowhere r y ys e =
         let x = ends front s in
-        let none : at rows p front ≡ None = (stops_tell rows 0 p front).0 ∙ ap (λ (z : Stop). part_at z.part z.left) e in
+        let none : at rows p front ≡ None = (stops_tell rows 0 p front).0 ∙ ap (λ (z : Stop). part_along z.part z.left) e in
         let last : last_holder rows p x.first x.more ≡ None = sym (ap (holder_of_path rows p) x.is) ∙ no_last front s p none in
         let stop : stopped rows p (x.first ∷ x.more) ≡ record { part = r; left = (y ∷ ys) ++ s ∷ [] } = sym (ap (stopped rows p) x.is) ∙ stops_more front (s ∷ []) p r y ys e in
         let many = x.many in

@@ -12,7 +12,7 @@ use Rattle.ild_open_held.specs.Held.{IsHeld}
 use Rattle.ild_path_edits.proofs.RoomTests.{schemas_have_tests}
 use Rattle.ild_path_edits.proofs.Stops.{stops_tell}
 use Rattle.ild_path_edits.specs.Along.{taken}
-use Rattle.ild_path_edits.specs.Stop.{Stop, part_at}
+use Rattle.ild_path_edits.specs.Stop.{Stop, part_along}
 use Rattle.ild_path_held.proofs.Holding.{held_parts}
 use Rattle.ild_path_held.specs.HeldEdits.{room_at}
 use Rattle.ild_path_hops.specs.Hops.{AreHops}
@@ -120,7 +120,7 @@ module _ (h : List ℕ → List ℕ) (rows : List Row) (was : List (List ℕ)) (
 
     module _ (none : i.left.now ≡ []) where
       there : at rows p front ≡ Some a.0.holder
-      there = (stops_tell rows 0 p front).0 ∙ ap (λ (z : Stop). part_at z.part z.left) (a.0.stops ∙ ap (λ xs. record { part = a.0.holder; left = xs }) none)
+      there = (stops_tell rows 0 p front).0 ∙ ap (λ (z : Stop). part_along z.part z.left) (a.0.stops ∙ ap (λ xs. record { part = a.0.holder; left = xs }) none)
 
       pub leads : LeadsTo rows a.0.less a.0.inner i.front i.room a.0.holder
       leads = record { there = a.0.there; inside = a.0.inside; room_is = a.0.room_is }

@@ -3,7 +3,7 @@ use Rattle.std.proofs.Common.{◌≡◌, ◌<◌, ◌≤◌, ◌+◌, ℕ, zero,
 use Rattle.std.specs.Prelude.{IsSomeAnd, option_and_then}
 use Rattle.std.proofs.lemmas.Option.{same_Some, none-some}
 use Rattle.std.specs.Borrow.{Bor}
-use Rattle.ild_cbor.specs.Nodes.{Finds, Stands}
+use Rattle.ild_cbor.specs.Nodes.{Finds, HasData}
 use Rattle.ild_cbor.specs.Span.{entry_of, index_of, item_of, place_of}
 use Rattle.ild_cbor.specs.declared.node.Node.{Node}
 use Rattle.ild_splice_changes.specs.TreeChange.{TreeStep, child, key, nth, part_at}
@@ -73,10 +73,10 @@ module _ (n : Node) (t d e : Data) (q : List TreeStep) (at : IsAt n t q d) (step
   back : (s : PartSteps) (r : Option Node) → steps ≡ s → IsSomeAnd r (λ m. IsAt m t (q ++ tree_steps s) e) → IsSomeAnd r (λ m. IsAt m t (q ++ tree_steps steps) e)
   back s r is x = subst (λ s. IsSomeAnd r (λ m. IsAt m t (q ++ tree_steps s) e)) (sym is) x
 
-  pub item_of_steps : (i : ℕ) (r : Option Node) → steps ≡ P.Item i → ((u : Data) → Stands n u → Finds n (place_of u i) (item_of u i) r) → IsSomeAnd r (λ m. IsAt m t (q ++ tree_steps steps) e)
+  pub item_of_steps : (i : ℕ) (r : Option Node) → steps ≡ P.Item i → ((u : Data) → HasData n u → Finds n (place_of u i) (item_of u i) r) → IsSomeAnd r (λ m. IsAt m t (q ++ tree_steps steps) e)
   item_of_steps i r is finds = back (P.Item i) r is (item_at n t d e q at i r (λ u x. finds u x.stands) (one_part (nth i) d e (at_steps (P.Item i) is)))
 
-  pub entry_of_steps : (k : Bor (List ℕ)) (r : Option Node) → steps ≡ P.Entry k → ((u : Data) → Stands n u → Finds n (place_of u (index_of k.now u)) (entry_of u k.now) r) → IsSomeAnd r (λ m. IsAt m t (q ++ tree_steps steps) e)
+  pub entry_of_steps : (k : Bor (List ℕ)) (r : Option Node) → steps ≡ P.Entry k → ((u : Data) → HasData n u → Finds n (place_of u (index_of k.now u)) (entry_of u k.now) r) → IsSomeAnd r (λ m. IsAt m t (q ++ tree_steps steps) e)
   entry_of_steps k r is finds = back (P.Entry k) r is (entry_at n t d e q at k.now r (λ u x. finds u x.stands) (one_part (key k.now) d e (at_steps (P.Entry k) is)))
 
   -- the pair, and its value
@@ -84,10 +84,10 @@ module _ (n : Node) (t d e : Data) (q : List TreeStep) (at : IsAt n t q d) (step
     mid : (m : Data) × (child (nth i) d ≡ Some m) × (part_at (nth 1 ∷ []) m ≡ Some e)
     mid = chained (λ u. part_at (nth 1 ∷ []) u) (child (nth i) d) e (at_steps (P.Pair i) is)
 
-    pub no_pair : ((u : Data) → Stands n u → Finds n (place_of u i) (item_of u i) None) → ⊥
+    pub no_pair : ((u : Data) → HasData n u → Finds n (place_of u i) (item_of u i) None) → ⊥
     no_pair finds = item_at n t d mid.0 q at i None (λ u x. finds u x.stands) mid.1
 
-    pub pair_of_steps : (pair : Node) (r : Option Node) → ((u : Data) → Stands n u → Finds n (place_of u i) (item_of u i) (Some pair)) → ((u : Data) → Stands pair u → Finds pair (place_of u 1) (item_of u 1) r)
+    pub pair_of_steps : (pair : Node) (r : Option Node) → ((u : Data) → HasData n u → Finds n (place_of u i) (item_of u i) (Some pair)) → ((u : Data) → HasData pair u → Finds pair (place_of u 1) (item_of u 1) r)
         → IsSomeAnd r (λ m. IsAt m t (q ++ tree_steps steps) e)
     pair_of_steps pair r finds second =
         let first = item_at n t d mid.0 q at i (Some pair) (λ u x. finds u x.stands) mid.1 in

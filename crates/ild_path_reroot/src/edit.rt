@@ -4,7 +4,7 @@ ghost use Rattle.std.specs.Prelude.{◌≡◌, ℕ, List, Some};
 ghost use Rattle.ild_data.specs.Data.{Data};
 ghost use Rattle.ild_edges.specs.Store.{Moment};
 ghost use Rattle.ild_node.specs.Rows.{NestsIn, deepest_value};
-ghost use Rattle.ild_cbor.specs.Nodes.{Stands};
+ghost use Rattle.ild_cbor.specs.Nodes.{HasData};
 ghost use Rattle.ild_path_reroot.specs.Reroots.{Cuts, IsCut, IsHamtHeld, IsHamtView, IsPut, Puts};
 ghost use Rattle.ild_schema.specs.Value.{Pairs, Value, hamt};
 ghost use Rattle.ild_schema.specs.declared.number.Slot.{Slot as Place};
@@ -35,7 +35,7 @@ pub fn put_entry<K: Store, H: KeyHash>(
     ensures gets { (K.moment store.new).gets ≡ (K.moment store.old).gets }
     ensures caused { CausedBy (K.moment store.old) result (K.moment store.new) }
     ensures puts { (rows : List Row) (was : List (List ℕ)) (s elem : Place) (t d x : Data) (ps : Pairs) (es : List (List ℕ × Data)) (k : List ℕ) (room : ℕ) (w : Value) → IsView view.now (hamt t)
-        → (K.moment store.old).blocks ≡ Some was → (at : IsHamtHeld H.hash_of rows was s elem t ps es k trail) → IsPut H.hash_of rows was s elem room ps k w d x → Stands item.now d
+        → (K.moment store.old).blocks ≡ Some was → (at : IsHamtHeld H.hash_of rows was s elem t ps es k trail) → IsPut H.hash_of rows was s elem room ps k w d x → HasData item.now d
         → Puts H.hash_of at.hamt.3 rows s room ps es k w d x (K.moment store.old) result (K.moment store.new) }
 {
     let root = match view.hamt() {

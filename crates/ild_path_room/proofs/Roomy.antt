@@ -16,7 +16,7 @@ use Rattle.ild_schema.specs.Slots.{form_of, plainly}
 use Rattle.ild_schema.specs.Value.{Value, null, boolean, integer, text, bytes, link, list, map, struct, union, enum, unit, any, hamt, values_list, pairs_list, optionals_list}
 use Rattle.ild_typed.specs.Layer as L
 use Rattle.ild_typed.specs.Layer.{Layer}
-use Rattle.ild_typed.specs.Layers.{layer_of, Shows, FieldsFit, EntriesFit, LayerFits}
+use Rattle.ild_typed.specs.Layers.{layer_of, RepresentsSome, FieldsFit, EntriesFit, LayerFits}
 use Rattle.ild_typed.specs.Levels.{levels_of}
 use Rattle.ild_typed.specs.Fits.{Fits}
 use Rattle.ild_typed.specs.Holder.{Holder, fields, member, entries, elements, any_entries, any_elements, nothing, list_holder, map_holder, struct_holder, union_holder, holder_of, data_in}
@@ -157,7 +157,7 @@ module _ (rows : List Row) where
       let o = opened i slot (map ps) (L.map (pairs_list ps)) (T.Map k.0 k.1 k.2 k.3 k.4) refl f refl h in
       let all : EntriesFit (Left i slot) rows k.0 k.2 k.4 (pairs_list ps) = entries_there rows (Left i slot) k.0 k.2 k.4 (pairs_list ps) o.1 in
       subst (λ g. IsRoomy i slot (map_holder g ps)) (sym f)
-      (o.0, all_more (λ p. IsUtf8 p.0 × Shows (Left i slot) rows (plainly k.0) (D.text p.0) × Left i slot k.2 p.1) (EntryLeft i slot (k.0).0 k.2) (λ p e. (e.1, e.2)) (pairs_list ps) all.1)
+      (o.0, all_more (λ p. IsUtf8 p.0 × RepresentsSome (Left i slot) rows (plainly k.0) (D.text p.0) × Left i slot k.2 p.1) (EntryLeft i slot (k.0).0 k.2) (λ p e. (e.1, e.2)) (pairs_list ps) all.1)
   roomy i slot (struct os) h =
       let t = in_layer rows slot (struct os) (L.struct (optionals_list os)) refl (i, h) in
       let k = struct_form rows (OfType rows) t.ty (optionals_list os) t.holds in
@@ -172,8 +172,8 @@ module _ (rows : List Row) where
 
   -- ---- and back
 
-  entry_fits : (i : ℕ) (slot : Slot) (key : TypeNo) (elem : Slot) (ps : List (List ℕ × Value)) → AllByRecursion (λ p. IsUtf8 p.0 × Shows (OfType rows) rows (plainly key) (D.text p.0) × OfType rows elem p.1) ps
-      → AllByRecursion (EntryLeft i slot key.0 elem) ps → AllByRecursion (λ p. IsUtf8 p.0 × Shows (Left i slot) rows (plainly key) (D.text p.0) × Left i slot elem p.1) ps
+  entry_fits : (i : ℕ) (slot : Slot) (key : TypeNo) (elem : Slot) (ps : List (List ℕ × Value)) → AllByRecursion (λ p. IsUtf8 p.0 × RepresentsSome (OfType rows) rows (plainly key) (D.text p.0) × OfType rows elem p.1) ps
+      → AllByRecursion (EntryLeft i slot key.0 elem) ps → AllByRecursion (λ p. IsUtf8 p.0 × RepresentsSome (Left i slot) rows (plainly key) (D.text p.0) × Left i slot elem p.1) ps
   entry_fits i slot key elem [] h g = tt
   entry_fits i slot key elem (p ∷ ps) h g = (((h.0).0, (g.0).0, (g.0).1), entry_fits i slot key elem ps h.1 g.1)
 

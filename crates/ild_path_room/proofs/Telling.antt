@@ -18,7 +18,7 @@ use Rattle.ild_schema.specs.Value.{Value, null, boolean, integer, text, bytes, l
 use Rattle.ild_typed.specs.Fits.{Fits}
 use Rattle.ild_typed.specs.Holder.{Holder, fields, member, entries, elements, any_entries, any_elements, nothing, list_holder, map_holder, struct_holder, union_holder, holder_of}
 use Rattle.ild_typed.specs.Layer as L
-use Rattle.ild_typed.specs.Layers.{Shows}
+use Rattle.ild_typed.specs.Layers.{RepresentsSome}
 use Rattle.ild_typed.specs.OfType.{OfType}
 use Rattle.ild_typed.specs.At.{InSlot, seen, last_holder}
 use Rattle.ild_typed.specs.Schema.{IsSchema}
@@ -85,7 +85,7 @@ keys_agree rows slot (union n v) h =
 -- as a function of the key type
 abbrev KeyShows : List Row → ℕ → List ℕ → Option TypeNo → Type 0
 KeyShows rows room s None = Unit {0}
-KeyShows rows room s (Some key) = Shows (Fits rows room) rows (plainly key) (T.text s)
+KeyShows rows room s (Some key) = RepresentsSome (Fits rows room) rows (plainly key) (T.text s)
 
 form_shows : (rows : List Row) (room : ℕ) (d : TypeDef) (s : List ℕ) → FormKeyFits rows room d s ↔ KeyShows rows room s (key_of (Some d))
 form_shows rows room (D.Map key key_at slot at form) s = (λ h. h, λ h. h)
@@ -99,7 +99,7 @@ holder_shows : (rows : List Row) (room : ℕ) (d : Option TypeDef) (h : Holder) 
 holder_shows rows room d (fields fs os) s e free = subst (λ o. Unit {0} ↔ KeyShows rows room s o) (sym e) (λ h. h, λ h. h)
 holder_shows rows room d (member ms n v) s e free = subst (λ o. Unit {0} ↔ KeyShows rows room s o) (sym e) (λ h. h, λ h. h)
 holder_shows rows room d (entries key slot paired ps) s e free =
-    subst (λ o. Shows (Fits rows room) rows (plainly (number key)) (T.text s) ↔ KeyShows rows room s o) (sym e) (λ h. h, λ h. h)
+    subst (λ o. RepresentsSome (Fits rows room) rows (plainly (number key)) (T.text s) ↔ KeyShows rows room s o) (sym e) (λ h. h, λ h. h)
 holder_shows rows room d (elements slot vs) s e free = subst (λ o. Unit {0} ↔ KeyShows rows room s o) (sym e) (λ h. h, λ h. h)
 holder_shows rows room d (any_entries ms) s e free = subst (λ o. Unit {0} ↔ KeyShows rows room s o) (sym e) (λ h. h, λ h. h)
 holder_shows rows room d (any_elements ds) s e free = subst (λ o. Unit {0} ↔ KeyShows rows room s o) (sym e) (λ h. h, λ h. h)

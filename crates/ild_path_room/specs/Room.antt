@@ -13,7 +13,7 @@ use Rattle.ild_schema.specs.Value.{Value}
 use Rattle.ild_typed.specs.At.{InSlot, seen, last_holder, changed_in}
 use Rattle.ild_typed.specs.Fits.{Fits}
 use Rattle.ild_typed.specs.Holder.{Holder, entries}
-use Rattle.ild_typed.specs.Layers.{Shows}
+use Rattle.ild_typed.specs.Layers.{RepresentsSome}
 use Rattle.ild_typed.specs.OfType.{OfType, TestsKeys}
 use Rattle.ild_typed.specs.Segment.{part, set_part}
 use Rattle.ild_path_edits.specs.Along.{room_below, taken}
@@ -42,12 +42,12 @@ room_left rows room p (s ∷ ss) = option_map_or (λ q. room_left rows (room_bel
 
 -- a key nests no deeper than the room, as the text of a value of the key type
 abbrev pub KeyFits : List Row → ℕ → Holder → List ℕ → Type 0
-KeyFits rows room (entries key slot paired ps) s = Shows (Fits rows room) rows (plainly (number key)) (T.text s)
+KeyFits rows room (entries key slot paired ps) s = RepresentsSome (Fits rows room) rows (plainly (number key)) (T.text s)
 KeyFits rows room h s = Unit {0}
 
 -- the same, by the form of the holder's type
 abbrev pub FormKeyFits : List Row → ℕ → TypeDef → List ℕ → Type 0
-FormKeyFits rows room (D.Map key key_at slot at form) s = Shows (Fits rows room) rows (plainly key) (T.text s)
+FormKeyFits rows room (D.Map key key_at slot at form) s = RepresentsSome (Fits rows room) rows (plainly key) (T.text s)
 FormKeyFits rows room d s = Unit {0}
 
 -- a part may come to this place

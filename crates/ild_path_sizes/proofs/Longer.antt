@@ -25,7 +25,7 @@ use Rattle.ild_schema.specs.Copies.{base}
 use Rattle.ild_schema.specs.Hex.{bytes_of_hex}
 use Rattle.ild_schema.specs.Joins.{joined, pair_text}
 use Rattle.ild_schema.specs.Legible.{IsLegible}
-use Rattle.ild_schema.specs.Marks.{field_text, kind_of as mark_kind, text_of}
+use Rattle.ild_schema.specs.Marks.{field_text, mark_kind, mark_text}
 use Rattle.ild_schema.specs.Prelude.{anything}
 use Rattle.ild_schema.specs.Slots.{form_of}
 use Rattle.ild_schema.specs.Value.{Value}
@@ -170,11 +170,11 @@ in_union U.Kinded t u m made apart =
     let x = chained _ (mark_kind m.mark) u made in
     let y = if_true _ (Some t) u x.2 in
     same_data t t u (same_Some t u y.1) (omega arith)
-in_union U.Keyed t u m made apart = let x = chained (marked_form U.Keyed t) (text_of m.mark) u made in in_marked U.Keyed t u x.0 x.2 apart
-in_union U.StringPrefix t u m made apart = let x = chained (marked_form U.StringPrefix t) (text_of m.mark) u made in in_marked U.StringPrefix t u x.0 x.2 apart
-in_union U.BytesPrefix t u m made apart = let x = chained (marked_form U.BytesPrefix t) (text_of m.mark) u made in in_marked U.BytesPrefix t u x.0 x.2 apart
-in_union (U.Envelope key content) t u m made apart = let x = chained (marked_form (U.Envelope key content) t) (text_of m.mark) u made in in_marked (U.Envelope key content) t u x.0 x.2 apart
-in_union (U.Inline key) t u m made apart = let x = chained (marked_form (U.Inline key) t) (text_of m.mark) u made in in_marked (U.Inline key) t u x.0 x.2 apart
+in_union U.Keyed t u m made apart = let x = chained (marked_form U.Keyed t) (mark_text m.mark) u made in in_marked U.Keyed t u x.0 x.2 apart
+in_union U.StringPrefix t u m made apart = let x = chained (marked_form U.StringPrefix t) (mark_text m.mark) u made in in_marked U.StringPrefix t u x.0 x.2 apart
+in_union U.BytesPrefix t u m made apart = let x = chained (marked_form U.BytesPrefix t) (mark_text m.mark) u made in in_marked U.BytesPrefix t u x.0 x.2 apart
+in_union (U.Envelope key content) t u m made apart = let x = chained (marked_form (U.Envelope key content) t) (mark_text m.mark) u made in in_marked (U.Envelope key content) t u x.0 x.2 apart
+in_union (U.Inline key) t u m made apart = let x = chained (marked_form (U.Inline key) t) (mark_text m.mark) u made in in_marked (U.Inline key) t u x.0 x.2 apart
 
 -- ---- maps and lists
 

@@ -1,7 +1,7 @@
 -- The place of a key among pairs, of which the first ones have other keys.
 use Rattle.std.proofs.Common.{◌≡◌, ◌≤◌, ◌+◌, ◌-◌, ◌^◌, min, ℕ, suc, List, [], ◌∷◌, Bool, true, false, cond, length, map, Some, None, refl, sym, ◌∙◌, ap, arith}
 use Rattle.std.proofs.lemmas.Option.{none-some}
-use Rattle.ild_cbor.specs.Nodes.{Stands}
+use Rattle.ild_cbor.specs.Nodes.{HasData}
 use Rattle.ild_cbor.specs.Steps.{HasItems, ItemsGive}
 use Rattle.ild_cbor.specs.declared.items.Items.{Items}
 use Rattle.ild_cbor.specs.declared.node.Node.{Node}
@@ -32,7 +32,7 @@ begins k es x s h there =
     record { rest = es; left = h; there = there; place = omega arith; short = omega (arith, few, long, h.sized) }
 
 module _ (k : List ℕ) (es : List (List ℕ × Data)) (x : Data) (n : ℕ) (s t : Items) (item : Node) (b : Bool) (seek : Seeking k es x n s) (gives : ItemsGive s (Some item) t)
-    (keyed : (e : List ℕ × Data) → Stands item (pair_data e) → b ≡ same_text k e.0)
+    (keyed : (e : List ℕ × Data) → HasData item (pair_data e) → b ≡ same_text k e.0)
   where
     pub found : b ≡ true → Some n ≡ Some (place_of k es)
     found e = by seek.rest seek.left seek.place where

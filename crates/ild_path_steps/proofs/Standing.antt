@@ -19,7 +19,7 @@ use Rattle.ild_path_changes.specs.Pairs.{pair_if}
 use Rattle.ild_path_changes.specs.Places.{field_place, left_out, place_of, written}
 use Rattle.ild_layer_piece.specs.Pieces.{StandsFor}
 use Rattle.ild_schema.specs.Clear.{ClearStruct, KeysApart}
-use Rattle.ild_schema.specs.Marks.{field_text, kind_of as mark_kind, text_of}
+use Rattle.ild_schema.specs.Marks.{field_text, mark_kind, mark_text}
 use Rattle.ild_schema.specs.Prelude.{anything}
 use Rattle.ild_schema.specs.DataKinds.{same_kind}
 use Rattle.ild_schema.specs.declared.def.Field.{Field}
@@ -39,7 +39,7 @@ use Rattle.ild_typed.specs.Composed.{inlined, map_form, marked_form, member_form
 use Rattle.ild_typed.specs.Fields.{field_entries, tuple_items}
 use Rattle.ild_typed.specs.Hamt.{alone}
 use Rattle.ild_typed.specs.Holder.{any_holder, data_in, of_any}
-use Rattle.ild_typed.specs.Kinds.{kind_of}
+use Rattle.ild_typed.specs.Kinds.{kind_word_of}
 use Rattle.ild_typed.specs.Layer as L
 use Rattle.ild_typed.specs.Segment.{index_of, part}
 use Rattle.ild_typed.specs.Strings.{in_key_order, listpairs, map_data, members_in}
@@ -155,9 +155,9 @@ module _ (fs : List Field) (ds : List (Option Data)) (t a : Data) (s : List ℕ)
 pub member_is : (all ms : List Member) (n : ℕ) (x m : Member) → all ≡ ms → x ≡ get_or all n x → slice_get ms n ≡ Some m → x ≡ m
 member_is all ms n x m same is there = got ms n x m there (is ∙ ap (λ (xs : List Member). get_or xs n x) same)
 
-pub no_text : (mark : Mark) → (mark ≡ M.Bare) ⊎ ((w : KindWord) × (mark ≡ M.Kind w)) → text_of mark ≡ None
-no_text mark (inl e) = ap text_of e
-no_text mark (inr (w, e)) = ap text_of e
+pub no_text : (mark : Mark) → (mark ≡ M.Bare) ⊎ ((w : KindWord) × (mark ≡ M.Kind w)) → mark_text mark ≡ None
+no_text mark (inl e) = ap mark_text e
+no_text mark (inr (w, e)) = ap mark_text e
 
 of_mark : (F : List ℕ → Option Data) (o : Option (List ℕ)) (name : List ℕ) (t : Data) → o ≡ Some name → option_and_then F o ≡ Some t → F name ≡ Some t
 of_mark F o name t e h = sym (ap (option_and_then F) e) ∙ h
@@ -184,18 +184,18 @@ members_there (T.bytes s) ms h = absurd (none-some ms h)
 members_there (T.list ds) ms h = absurd (none-some ms h)
 members_there (T.link s) ms h = absurd (none-some ms h)
 
-kinded : (d t : Data) (o : Option KindWord) → option_and_then (λ k. cond (same_kind k (kind_of d)) (Some d) None) o ≡ Some t → t ≡ d
+kinded : (d t : Data) (o : Option KindWord) → option_and_then (λ k. cond (same_kind k (kind_word_of d)) (Some d) None) o ≡ Some t → t ≡ d
 kinded d t None h = absurd (none-some t h)
-kinded d t (Some k) h = sym (if_some (same_kind k (kind_of d)) d t h)
+kinded d t (Some k) h = sym (if_some (same_kind k (kind_word_of d)) d t h)
 
 module _ (m : Member) (d t : Data) where
-  pub keyed_leads : (form : UnionForm) (name : List ℕ) → form ≡ U.Keyed → text_of m.mark ≡ Some name → member_form form d m ≡ Some t → part_at (key name ∷ []) t ≡ Some d
+  pub keyed_leads : (form : UnionForm) (name : List ℕ) → form ≡ U.Keyed → mark_text m.mark ≡ Some name → member_form form d m ≡ Some t → part_at (key name ∷ []) t ≡ Some d
   keyed_leads form name is mark made =
       let made_in : member_form U.Keyed d m ≡ Some t = sym (ap (λ f. member_form f d m) is) ∙ made in
-      let x = of_mark (marked_form U.Keyed d) (text_of m.mark) name t mark made_in in
+      let x = of_mark (marked_form U.Keyed d) (mark_text m.mark) name t mark made_in in
       ap (part_at (key name ∷ [])) (sym (same_Some (map_data ((name, d) ∷ [])) t x)) ∙ key_there name ((name, d) ∷ []) d (ap (λ b. cond b (Some d) None) (own_text name))
 
-  pub no_mark : (form : UnionForm) → form ≡ U.Keyed → text_of m.mark ≡ None → member_form form d m ≡ Some t → ⊥
+  pub no_mark : (form : UnionForm) → form ≡ U.Keyed → mark_text m.mark ≡ None → member_form form d m ≡ Some t → ⊥
   no_mark form is mark made = none-some t (sym (ap (option_and_then (marked_form U.Keyed d)) mark) ∙ sym (ap (λ f. member_form f d m) is) ∙ made)
 
   pub kinded_leads : (form : UnionForm) → form ≡ U.Kinded → member_form form d m ≡ Some t → t ≡ d
@@ -203,7 +203,7 @@ module _ (m : Member) (d t : Data) where
 
   pub envelope_leads : (form : UnionForm) (k content called : List ℕ) → form ≡ U.Envelope k content → called ≡ content → member_form form d m ≡ Some t → KeysApart form → part_at (key called ∷ []) t ≡ Some d
   envelope_leads form k content called is same made apart =
-      let a = chained (marked_form (U.Envelope k content) d) (text_of m.mark) t (sym (ap (λ f. member_form f d m) is) ∙ made) in
+      let a = chained (marked_form (U.Envelope k content) d) (mark_text m.mark) t (sym (ap (λ f. member_form f d m) is) ∙ made) in
       ap (λ j. part_at (key j ∷ []) t) same
       ∙ ap (part_at (key content ∷ [])) (sym (same_Some (map_data (put k (T.text a.0) ((content, d) ∷ []))) t a.2))
       ∙ key_there content (put k (T.text a.0) ((content, d) ∷ [])) d
@@ -211,7 +211,7 @@ module _ (m : Member) (d t : Data) where
 
   pub inline_leads : (form : UnionForm) (k : _) → form ≡ U.Inline k → member_form form d m ≡ Some t → IsBut k t d
   inline_leads form k is made =
-      let a = chained (marked_form (U.Inline k) d) (text_of m.mark) t (sym (ap (λ f. member_form f d m) is) ∙ made) in
+      let a = chained (marked_form (U.Inline k) d) (mark_text m.mark) t (sym (ap (λ f. member_form f d m) is) ∙ made) in
       let b = chained (inlined k a.0) (members_in d) t a.2 in
       record {
         name = a.0;

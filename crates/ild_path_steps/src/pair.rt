@@ -1,6 +1,6 @@
 //! Pairs in a list.
 ghost use Rattle.std.specs.Prelude.{◌≡◌, ℕ, List, Some, map};
-ghost use Rattle.ild_cbor.specs.Nodes.{Stands};
+ghost use Rattle.ild_cbor.specs.Nodes.{HasData};
 ghost use Rattle.ild_cbor.specs.Steps.{HasItems};
 ghost use Rattle.ild_data.specs.Data.{Data, items_of};
 ghost use Rattle.ild_data.specs.Key.{same_text, value_at};
@@ -16,7 +16,7 @@ use ild_layer_piece::items;
 
 /// Whether the key of a pair is this one.
 pub fn is_keyed(item: &Node<'_>, key: &str) -> bool
-    ensures { (e : List ℕ × Data) → Stands item.now (pair_data e) → result ≡ same_text key.now e.0 }
+    ensures { (e : List ℕ × Data) → HasData item.now (pair_data e) → result ≡ same_text key.now e.0 }
 {
     match item.item(0) {
         Some(first) => match first.text() {

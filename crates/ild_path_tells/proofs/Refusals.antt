@@ -6,7 +6,7 @@ use Rattle.std.proofs.lemmas.Option.{none-some}
 use Rattle.ild_data.specs.Key.{same_text, value_at}
 use Rattle.ild_path_edits.proofs.Stops.{stops_tell}
 use Rattle.ild_path_edits.specs.Edit.{del_in, unless_kept}
-use Rattle.ild_path_edits.specs.Stop.{fault_by, may_delete, part_at, stopped}
+use Rattle.ild_path_edits.specs.Stop.{fault_by, may_delete, part_along, stopped}
 use Rattle.ild_path_edits.specs.Table.{field_kept, if_present, never, refusal_to_delete, slot_to_insert, slot_to_set, unless_there}
 use Rattle.ild_path_place.specs.Places.{IsKept, SlotIs, path_fault, stop_number}
 use Rattle.ild_path_place.specs.declared.verb.Verb.{Verb}
@@ -129,7 +129,7 @@ module _ (rows : List Row) (p : InSlot) where
   allowed_at [] V.Del slot free may is = absurd (may (λ is_key. refl))
   allowed_at (s ∷ ss) V.Del slot free may is = goes _ _ _ (last_holder rows p s ss) free may
 
-  stops_by : (n k : ℕ) (q : InSlot) (left : List (List ℕ)) → stop_number n left ≡ Some k → unless_some (part_at q left) ≡ Some N.Path
+  stops_by : (n k : ℕ) (q : InSlot) (left : List (List ℕ)) → stop_number n left ≡ Some k → unless_some (part_along q left) ≡ Some N.Path
   stops_by n k q [] e = absurd (none-some k e)
   stops_by n k q (s ∷ ss) e = refl
 

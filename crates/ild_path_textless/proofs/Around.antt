@@ -6,7 +6,7 @@ use Rattle.std.proofs.lemmas.Option.{none-some, same_Some}
 use Rattle.ild_build.specs.TextRep.{text_rep}
 use Rattle.ild_path_edits.proofs.LayerTesting.{judged_along}
 use Rattle.ild_path_edits.proofs.Paths.{inserted_typed, last_text, may_stand, placed_typed, set_typed}
-use Rattle.ild_path_edits.specs.Along.{AtPart, IsFree, IsFreeAlong, Passes}
+use Rattle.ild_path_edits.specs.Along.{AtPart, IsFree, IsFreeAlong, LayerPasses}
 use Rattle.ild_path_edits.specs.Edit.{change, ins_in, new_slot, set_in}
 use Rattle.ild_path_edits.specs.Table.{MayStand, insert_part, key_fits, slot_to_insert, slot_to_set}
 use Rattle.ild_path_judged.proofs.Last.{came, held_of, kept, parts_of}
@@ -31,7 +31,7 @@ use Rattle.ild_typed.specs.OfType.{OfType, TestsKeys}
 use Rattle.ild_typed.specs.Schema.{IsSchema}
 use Rattle.ild_typed.specs.Segment.{part, set_part}
 
-passes : (rows : List Row) (slot : Slot) → ((v : Value) → breaks rows (form_of rows slot) v ≡ false) → (k : Holder) → Passes (breaks rows) rows slot k
+passes : (rows : List Row) (slot : Slot) → ((v : Value) → breaks rows (form_of rows slot) v ≡ false) → (k : Holder) → LayerPasses (breaks rows) rows slot k
 passes rows slot all (fields fs os) = all (value_of (fields fs os))
 passes rows slot all (member ms n v) = all (value_of (member ms n v))
 passes rows slot all (entries key elem paired ps) = all (value_of (entries key elem paired ps))
@@ -66,7 +66,7 @@ module _ (h : List ℕ → List ℕ) (rows : List Row) (is_key : ℕ → List �
       by (Some q) g last rest = rest q g last
 
   -- so a holder on the path has no delimiter rule, whatever becomes of it
-  quiet : (ss : List (List ℕ)) (p : InSlot) (s : List ℕ) (l : Holder × List ℕ) → OfT p → last_holder rows p s ss ≡ Some l → slot_for how l.0 l.1 ≡ Some slot → (k : Holder) → Passes (breaks rows) rows p.0 k
+  quiet : (ss : List (List ℕ)) (p : InSlot) (s : List ℕ) (l : Holder × List ℕ) → OfT p → last_holder rows p s ss ≡ Some l → slot_for how l.0 l.1 ≡ Some slot → (k : Holder) → LayerPasses (breaks rows) rows p.0 k
   quiet ss p s l is last there k = passes rows p.0 (silent rows schema p.0 (λ texts. no_text (down ss p s l is texts last there))) k
 
   along : (ss : List (List ℕ)) (p : InSlot) (s : List ℕ) (l : Holder × List ℕ) → OfT p → IsFree (breaks rows) rows p.0 p.1 → last_holder rows p s ss ≡ Some l → slot_for how l.0 l.1 ≡ Some slot → MayStand is_key l.0 l.1
@@ -85,7 +85,7 @@ module _ (h : List ℕ → List ℕ) (rows : List Row) (is_key : ℕ → List �
       ))
     where
       Below : InSlot → Type 0
-      Below q = Passes (breaks rows) rows p.0 (set_part (seen rows p) s (changed_in rows (brought how w) q t ss)) × IsFreeAlong (breaks rows) rows (brought how w) q t ss
+      Below q = LayerPasses (breaks rows) rows p.0 (set_part (seen rows p) s (changed_in rows (brought how w) q t ss)) × IsFreeAlong (breaks rows) rows (brought how w) q t ss
 
       by : (o : Option InSlot) → part (seen rows p) s ≡ o → option_and_then (λ q. last_holder rows q t ss) o ≡ Some l → ((q : InSlot) → part (seen rows p) s ≡ Some q → last_holder rows q t ss ≡ Some l → Below q) → AtPart o Below
       by None g last rest = tt

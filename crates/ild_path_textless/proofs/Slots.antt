@@ -10,7 +10,7 @@ use Rattle.ild_schema.proofs.Legibly.{legible}
 use Rattle.ild_schema.specs.Copies.{base}
 use Rattle.ild_schema.specs.DataKinds.{is_marked, kind_in, map_kind, same_kind, struct_kind, union_has}
 use Rattle.ild_schema.specs.Made.{IsTextSlot, MadeMap, MadeMember, MadeStruct, MadeType, HasOnly}
-use Rattle.ild_schema.specs.Marks.{kind_of as mark_kind}
+use Rattle.ild_schema.specs.Marks.{mark_kind}
 use Rattle.ild_schema.specs.Slots.{form_of, plainly}
 use Rattle.ild_schema.specs.Value as V
 use Rattle.ild_schema.specs.Value.{Value}

@@ -23,7 +23,7 @@ use Rattle.ild_run.specs.inside.Answered.{start_fault, AnsweredTold, AnsweredAs}
 use Rattle.ild_run.proofs.Openings.{taking_of}
 use Rattle.ild_run.specs.Opening.{InputsFault}
 use Rattle.ild_run.specs.Fault.{fault_text, status_of}
-use Rattle.ild_run.specs.Work.{Work, Taking, in_roles, lists, answers, makes, opens, work_of, job_work, IsTaking, AreTaken, Takes, Reaches}
+use Rattle.ild_run.specs.Work.{Work, Taking, in_roles, lists, answers, makes, opens, work_of, job_work, IsTaking, AreTaken, TakesForRole, Reaches}
 use Rattle.ild_run.specs.Words.{Job}
 use Rattle.ild_run.specs.Cut.{CutAs, ToldAs}
 use Rattle.ild_run.specs.Listed.{Lists, ListsFront, ListedAs}
@@ -92,7 +92,7 @@ are_taken c job t named taken = subst (λ (j : Option Job). AreTaken j c.before.
 pub is_work : (c : Call) (job : Job) (t : Taking) (w : Work) → c.job ≡ Some job → job_work job t ≡ w → work_of c.job t ≡ w
 is_work c job t w named is = ap (λ j. work_of j t) named ∙ is
 
-reaches : (c : Call) (job : Job) (role : Role) (t : Taking) → c.job ≡ Some job → Takes role job t → Reaches role c.job t
+reaches : (c : Call) (job : Job) (role : Role) (t : Taking) → c.job ≡ Some job → TakesForRole role job t → Reaches role c.job t
 reaches c job role t named there = subst (λ (j : Option Job). Reaches role j t) (sym named) there
 
 due_inputs : (c : Call) (job : Job) (t : Taking) (f : Fault) → c.job ≡ Some job → InputsFault c.before.supply job t f c.after.supply → IsDue c t f

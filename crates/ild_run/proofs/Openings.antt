@@ -19,7 +19,7 @@ use Rattle.ild_run.specs.Words.{Job, checks, compares, runs, creates, shows, nam
 use Rattle.ild_run.specs.Work.{Taking, in_roles, run_work, type_work, root_work, IsVerdict, IsUnder, IsTaking, AreTaken}
 use Rattle.ild_run.specs.declared.open.Task.{Task}
 use Rattle.ild_run.specs.declared.open.Task.TheVariants as P
-use Rattle.ild_run.specs.Opening.{InputAnswer, TakesInput, CompileAnswer, OpensAnswer, IsReady, Opens, OpensBehind}
+use Rattle.ild_run.specs.Opening.{InputAnswer, TakesInput, CompileAnswer, OpensAnswer, IsReady, TakesInputs, OpensBehind}
 
 -- something may be taken under each name
 pub some_taken : (files : Option (List (List ℕ × List ℕ))) (name : List ℕ) → (t : Taken) × MayBe files name t
@@ -67,7 +67,7 @@ no_verdict (Taken.Bytes b) = tt
 
 -- a call that ends before its second input
 opens_before : (m n : Supply) (job : Job) (schema : Taken) (verdict : Option Verdict) (result : Result Task Fault) → IsUnder m schema (name_of Role.Schema job) → IsVerdict schema verdict
-    → ((script : Taken) → OpensAnswer m job (record { input = in_roles schema script; verdict = verdict; next = None }) result n) → IfOk result IsReady → After m n → Opens m job result n
+    → ((script : Taken) → OpensAnswer m job (record { input = in_roles schema script; verdict = verdict; next = None }) result n) → IfOk result IsReady → After m n → TakesInputs m job result n
 opens_before m n job schema verdict result is says answer ready after =
     let other = some_under m (other_name job) in
     record {
@@ -111,7 +111,7 @@ under : (m : Supply) (t : Taken) (name : List ℕ) (found : Option (List ℕ)) �
 under m t name found named is = subst (λ (x : Option (List ℕ)). IsUnder m t x) (sym named) is
 
 -- a call that ends at the schema's input
-pub opens_schema : (m n : Supply) (job : Job) (name : List ℕ) (f : Fault) → name_of Role.Schema job ≡ Some name → InputAnswer m Role.Schema name (Err f) n → After m n → Opens m job (Err f) n
+pub opens_schema : (m n : Supply) (job : Job) (name : List ℕ) (f : Fault) → name_of Role.Schema job ≡ Some name → InputAnswer m Role.Schema name (Err f) n → After m n → TakesInputs m job (Err f) n
 opens_schema m n job name (F.Input Role.Schema T.Absent) named answer after = opens_before m n job Taken.Absent None _ (under m Taken.Absent name (name_of Role.Schema job) named answer.1) tt (λ script. (refl, answer.2)) tt after
 opens_schema m n job name (F.Input Role.Schema T.Long) named answer after = opens_before m n job Taken.Long None _ (under m Taken.Long name (name_of Role.Schema job) named answer.1) tt (λ script. (refl, answer.2)) tt after
 opens_schema m n job name (F.Input Role.Schema T.Failed) named answer after =
@@ -135,7 +135,7 @@ opens_schema m n job name (F.Value r) named answer after = absurd answer
 opens_schema m n job name (F.Root id why) named answer after = absurd answer
 
 -- a call that ends at the schema's compilation
-pub opens_faulty : (m n : Supply) (job : Job) (name b : List ℕ) (f : Fault) → name_of Role.Schema job ≡ Some name → MayBe m.files name (Taken.Bytes b) → CompileAnswer b (Err f) → After m n → Opens m job (Err f) n
+pub opens_faulty : (m n : Supply) (job : Job) (name b : List ℕ) (f : Fault) → name_of Role.Schema job ≡ Some name → MayBe m.files name (Taken.Bytes b) → CompileAnswer b (Err f) → After m n → TakesInputs m job (Err f) n
 opens_faulty m n job name b (F.Schema f) named is answer after = opens_before m n job (Taken.Bytes b) (Some (faulty f)) _ (under m (Taken.Bytes b) name (name_of Role.Schema job) named is) answer (λ script. refl) tt after
 opens_faulty m n job name b F.Memory named is answer after = opens_before m n job (Taken.Bytes b) None _ (under m (Taken.Bytes b) name (name_of Role.Schema job) named is) tt (λ script. tt) tt after
 opens_faulty m n job name b (F.Input role trouble) named is answer after = absurd answer
@@ -146,14 +146,14 @@ opens_faulty m n job name b (F.Value r) named is answer after = absurd answer
 opens_faulty m n job name b (F.Root id why) named is answer after = absurd answer
 
 -- a call whose schema is checked
-pub opens_checked : (m n : Supply) (name : List ℕ) (b : List ℕ) (rows : List Row) → MayBe m.files name (Taken.Bytes b) → Compiles b (table rows) → After m n → Opens m (checks name) (Ok (P.List rows)) n
+pub opens_checked : (m n : Supply) (name : List ℕ) (b : List ℕ) (rows : List Row) → MayBe m.files name (Taken.Bytes b) → Compiles b (table rows) → After m n → TakesInputs m (checks name) (Ok (P.List rows)) n
 opens_checked m n name b rows is compiles after = opens_before m n (checks name) (Taken.Bytes b) (Some (table rows)) _ is compiles (λ script. refl) tt after
 
 -- ---- a value that is to be created or shown
 
 -- a call that ends with its schema
 opens_with : (m n : Supply) (job : Job) (name b : List ℕ) (rows : List Row) (result : Result Task Fault) → name_of Role.Schema job ≡ Some name → MayBe m.files name (Taken.Bytes b) → Compiles b (table rows)
-    → ((t : Taken) → OpensAnswer m job (record { input = in_roles (Taken.Bytes b) t; verdict = Some (table rows); next = None }) result n) → IfOk result IsReady → After m n → Opens m job result n
+    → ((t : Taken) → OpensAnswer m job (record { input = in_roles (Taken.Bytes b) t; verdict = Some (table rows); next = None }) result n) → IfOk result IsReady → After m n → TakesInputs m job result n
 opens_with m n job name b rows result named is compiles answer ready after =
     opens_before m n job (Taken.Bytes b) (Some (table rows)) result (under m (Taken.Bytes b) name (name_of Role.Schema job) named is) compiles answer ready after
 

@@ -16,7 +16,7 @@ use Rattle.ild_run.specs.declared.open.Task.{Task}
 use Rattle.ild_run.specs.declared.open.Task.TheVariants as P
 use Rattle.ild_run.specs.Words.{compares}
 use Rattle.ild_run.specs.Work.{Taking, in_roles, types_work, IsVerdict}
-use Rattle.ild_run.specs.Opening.{InputAnswer, TakesInput, CompileAnswer, OpensAnswer, IsReady, Opens, OpensBehind, TypesAnswer}
+use Rattle.ild_run.specs.Opening.{InputAnswer, TakesInput, CompileAnswer, OpensAnswer, IsReady, TakesInputs, OpensBehind, TypesAnswer}
 use Rattle.ild_run.proofs.Openings.{all_roles, no_verdict, some_taken}
 
 -- ---- the types with one name
@@ -39,7 +39,7 @@ pair_taking b rows taken verdict = record { input = in_roles (Taken.Bytes b) tak
 module _ (m : Supply) (name next ty b : List ℕ) (rows : List Row) (is : MayBe m.files name (Taken.Bytes b)) (compiles : Compiles b (table rows)) where
   -- a call that came to a later schema: this is taken as it, and this is what it is compiled to
   comes : (n : Supply) (x : Taken) (verdict : Option Verdict) (result : Result Task Fault) → MayBe m.files next x → IsVerdict x verdict
-      → OpensAnswer m (compares name next ty) (pair_taking b rows x verdict) result n → IfOk result IsReady → After m n → Opens m (compares name next ty) result n
+      → OpensAnswer m (compares name next ty) (pair_taking b rows x verdict) result n → IfOk result IsReady → After m n → TakesInputs m (compares name next ty) result n
   comes n x verdict result there says answer ready after = record {
     taking = pair_taking b rows x verdict;
     taken = record { input = all_roles (compares name next ty) m (Taken.Bytes b) x is there; verdict = compiles; next = says };
@@ -51,7 +51,7 @@ module _ (m : Supply) (name next ty b : List ℕ) (rows : List Row) (is : MayBe 
   held : (k : Supply) (x : Taken) → k.files ≡ m.files → MayBe k.files next x → MayBe m.files next x
   held k x same there = subst (λ (f : Option (List (List ℕ × List ℕ))). MayBe f next x) same there
 
-  untaken : (k n : Supply) (f : Fault) → After m k → After m n → InputAnswer k Role.Next next (Err f) n → Opens m (compares name next ty) (Err f) n
+  untaken : (k n : Supply) (f : Fault) → After m k → After m n → InputAnswer k Role.Next next (Err f) n → TakesInputs m (compares name next ty) (Err f) n
   untaken k n (F.Input Role.Next T.Absent) before after answer =
       comes n Taken.Absent None (Err (F.Input Role.Next T.Absent)) (held k Taken.Absent before.files answer.1) tt (refl, let rose = answer.2 in let le = before.lacks in omega arith) tt after
   untaken k n (F.Input Role.Next T.Long) before after answer =
@@ -77,7 +77,7 @@ module _ (m : Supply) (name next ty b : List ℕ) (rows : List Row) (is : MayBe 
   untaken k n (F.Value r) before after answer = absurd answer
   untaken k n (F.Root id why) before after answer = absurd answer
 
-  uncompiled : (n : Supply) (bytes : List ℕ) (f : Fault) → MayBe m.files next (Taken.Bytes bytes) → After m n → CompileAnswer bytes (Err f) → Opens m (compares name next ty) (Err f) n
+  uncompiled : (n : Supply) (bytes : List ℕ) (f : Fault) → MayBe m.files next (Taken.Bytes bytes) → After m n → CompileAnswer bytes (Err f) → TakesInputs m (compares name next ty) (Err f) n
   uncompiled n bytes (F.Schema f) there after answer = comes n (Taken.Bytes bytes) (Some (faulty f)) (Err (F.Schema f)) there answer refl tt after
   uncompiled n bytes F.Memory there after answer = comes n (Taken.Bytes bytes) None (Err F.Memory) there tt tt tt after
   uncompiled n bytes (F.Input role trouble) there after answer = absurd answer
@@ -88,7 +88,7 @@ module _ (m : Supply) (name next ty b : List ℕ) (rows : List Row) (is : MayBe 
   uncompiled n bytes (F.Root id why) there after answer = absurd answer
 
   typed : (n : Supply) (bytes : List ℕ) (others : List Row) (result : Result Task Fault) → MayBe m.files next (Taken.Bytes bytes) → Compiles bytes (table others) → After m n → TypesAnswer rows others ty result
-      → Opens m (compares name next ty) result n
+      → TakesInputs m (compares name next ty) result n
   typed n bytes others (Ok task) there compiled after answer = comes n (Taken.Bytes bytes) (Some (table others)) (Ok task) there compiled answer.0 answer.1 after
   typed n bytes others (Err F.Words) there compiled after answer = comes n (Taken.Bytes bytes) (Some (table others)) (Err F.Words) there compiled answer tt after
   typed n bytes others (Err (F.Schema f)) there compiled after answer = absurd answer

@@ -18,7 +18,7 @@ use Rattle.ild_run.specs.declared.open.Task.TheVariants as P
 use Rattle.ild_run_open.specs.declared.start.Start.{Start}
 use Rattle.ild_run.specs.Words.{Job, checks, compares, runs, creates, shows, start_of_text}
 use Rattle.ild_data_root.specs.Root.{root_of_text}
-use Rattle.ild_run.specs.Work.{Work, Taking, ends, lists, matches, answers, makes, opens, types_work, job_work, IsTaking, Takes}
+use Rattle.ild_run.specs.Work.{Work, Taking, ends, lists, matches, answers, makes, opens, types_work, job_work, IsTaking, TakesForRole}
 
 -- the job that the program holds
 abbrev pub job_seen : Held → Job
@@ -63,7 +63,7 @@ CompileAnswer b (Err f) = ⊥
 
 -- the cause of a fault of the inputs
 abbrev pub InputsFault : Supply → Job → Taking → Fault → Supply → Type 0
-InputsFault m job t (F.Input role T.Failed) n = Rose m.faults n.faults × Takes role job t
+InputsFault m job t (F.Input role T.Failed) n = Rose m.faults n.faults × TakesForRole role job t
 InputsFault m job t (F.Input role trouble) n = (job_work job t ≡ ends (F.Input role trouble)) × Rose m.lacks n.lacks
 InputsFault m job t F.Words n = job_work job t ≡ ends F.Words
 InputsFault m job t (F.Schema f) n = job_work job t ≡ ends (F.Schema f)
@@ -91,7 +91,7 @@ OpensAnswer m job t (Ok task) n = job_work job t ≡ work_seen task
 OpensAnswer m job t (Err f) n = InputsFault m job t f n
 
 -- the inputs are taken in order, as far as they lead
-pub record Opens (m : Supply) (job : Job) (result : Result Task Fault) (n : Supply) : Type 0 where
+pub record TakesInputs (m : Supply) (job : Job) (result : Result Task Fault) (n : Supply) : Type 0 where
   pub taking : Taking
   pub taken : IsTaking job m taking
   pub answer : OpensAnswer m job taking result n
@@ -101,7 +101,7 @@ pub record Opens (m : Supply) (job : Job) (result : Result Task Fault) (n : Supp
 -- the same from where the schema is compiled, in a call that came so far; job makes the job, from the schema's name
 abbrev pub OpensBehind : Supply → List Row → (List ℕ → Job) → Result Task Fault → Supply → Type 0
 OpensBehind k rows job result n =
-    (m : Supply) (name bytes : List ℕ) → MayBe m.files name (Taken.Bytes bytes) → Compiles bytes (table rows) → After m k → Opens m (job name) result n
+    (m : Supply) (name bytes : List ℕ) → MayBe m.files name (Taken.Bytes bytes) → Compiles bytes (table rows) → After m k → TakesInputs m (job name) result n
 
 -- whether two tables have a type with one name
 abbrev pub TypesAnswer : List Row → List Row → List ℕ → Result Task Fault → Type 0

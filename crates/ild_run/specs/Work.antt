@@ -143,24 +143,24 @@ pub record IsTableOpen (t : Taking) : Type 0 where
 
 -- a job leads up to taking an input: each to its schema, and where that is accepted, a comparison to the later schema; where the type of its value is there, a run to the script, and that of a
 -- new value to the value
-abbrev pub Takes : Role → Job → Taking → Type 0
-Takes Role.Schema job t = Unit {0}
-Takes Role.Next (checks schema) t = ⊥
-Takes Role.Next (compares schema next ty) t = IsTableOpen t
-Takes Role.Next (runs schema ty start script) t = ⊥
-Takes Role.Next (creates schema ty value) t = ⊥
-Takes Role.Next (shows schema ty id) t = ⊥
-Takes Role.Script (checks schema) t = ⊥
-Takes Role.Script (compares schema next ty) t = ⊥
-Takes Role.Script (runs schema ty start script) t = IsTypeOpen ty t
-Takes Role.Script (creates schema ty value) t = ⊥
-Takes Role.Script (shows schema ty id) t = ⊥
-Takes Role.Value (checks schema) t = ⊥
-Takes Role.Value (compares schema next ty) t = ⊥
-Takes Role.Value (runs schema ty start script) t = ⊥
-Takes Role.Value (creates schema ty value) t = IsTypeOpen ty t
-Takes Role.Value (shows schema ty id) t = ⊥
+abbrev pub TakesForRole : Role → Job → Taking → Type 0
+TakesForRole Role.Schema job t = Unit {0}
+TakesForRole Role.Next (checks schema) t = ⊥
+TakesForRole Role.Next (compares schema next ty) t = IsTableOpen t
+TakesForRole Role.Next (runs schema ty start script) t = ⊥
+TakesForRole Role.Next (creates schema ty value) t = ⊥
+TakesForRole Role.Next (shows schema ty id) t = ⊥
+TakesForRole Role.Script (checks schema) t = ⊥
+TakesForRole Role.Script (compares schema next ty) t = ⊥
+TakesForRole Role.Script (runs schema ty start script) t = IsTypeOpen ty t
+TakesForRole Role.Script (creates schema ty value) t = ⊥
+TakesForRole Role.Script (shows schema ty id) t = ⊥
+TakesForRole Role.Value (checks schema) t = ⊥
+TakesForRole Role.Value (compares schema next ty) t = ⊥
+TakesForRole Role.Value (runs schema ty start script) t = ⊥
+TakesForRole Role.Value (creates schema ty value) t = IsTypeOpen ty t
+TakesForRole Role.Value (shows schema ty id) t = ⊥
 
 abbrev pub Reaches : Role → Option Job → Taking → Type 0
 Reaches role None t = ⊥
-Reaches role (Some job) t = Takes role job t
+Reaches role (Some job) t = TakesForRole role job t

@@ -2,7 +2,7 @@
 ghost use Rattle.std.specs.Prelude.{◌≡◌, ◌<◌, IfSome, Some, length, option_map};
 ghost use Rattle.ild_schema.specs.Names.{number_named};
 ghost use Rattle.ild_run.specs.Words.{job_of, name_of, pair_job, typed_job, run_job, compares, creates, runs, shows};
-ghost use Rattle.ild_run.specs.Opening.{job_seen, AsksFor, AsksRoot, AsksStart, CompileAnswer, TakesInput, Opens, OpensBehind, TypesAnswer};
+ghost use Rattle.ild_run.specs.Opening.{job_seen, AsksFor, AsksRoot, AsksStart, CompileAnswer, TakesInput, TakesInputs, OpensBehind, TypesAnswer};
 
 use crate::fault::{Fault, Role, Trouble};
 use ild_compile::{CompileErr, compile};
@@ -277,7 +277,7 @@ fn plan_root<I: Inputs>(
 
 /// Takes the inputs in order, as far as the job leads, and says what is to be done.
 pub fn plan<I: Inputs>(alloc: Global, inputs: &mut I, job: &Job<'_>) -> Result<Task, Fault>
-    ensures { Opens (I.supply inputs.old) (job_seen job.now) result (I.supply inputs.new) }
+    ensures { TakesInputs (I.supply inputs.old) (job_seen job.now) result (I.supply inputs.new) }
 {
     let bytes = take_input(inputs, Role::Schema, job.schema())?;
     let schema = table_of(alloc, bytes.as_slice())?;

@@ -30,13 +30,13 @@ use Rattle.ild_view.specs.declared.body.Body.TheVariants as B
 use Rattle.ild_view.specs.declared.view.View.{View}
 use Rattle.ild_view_doc.specs.Docs.{table_in, type_in, block_in}
 use Rattle.ild_view_doc.specs.declared.doc.Doc.{Doc}
-use Rattle.ild_run_follow.specs.Tells.{IsAt as IsAtView}
+use Rattle.ild_run_follow.specs.Tells.{ViewIsHeld as IsAtView}
 use Rattle.ild_run_follow.specs.declared.kind.Tell.{Tell}
 use Rattle.ild_run_reads.specs.Laws.{ReadsAreReplies}
 use Rattle.ild_run_reads.specs.Replies.{RepliesAs, asked}
 use Rattle.ild_run_standing.specs.Answers.{AnswersAs}
 use Rattle.ild_run_standing.specs.Laws.{HeldAreStanding}
-use Rattle.ild_run_standing.specs.Standing.{IsAt, IsHeldAt, setting_of}
+use Rattle.ild_run_standing.specs.Standing.{DocIsAt, IsHeldAt, setting_of}
 use Rattle.ild_run_standing.proofs.Passing.{values_pass_on}
 
 -- what a store tells
@@ -52,7 +52,7 @@ body_stands rows t (B.Implicit s) p stands is = absurd cc
 module _ (trees : ValuesAreTrees) (roots : StandingAreHeld) (standing : HeldAreStanding) (replies : ReadsAreReplies)
     (h : List ℕ → List ℕ) (d : Doc) (view : View) (schema : IsSchema (table_in d)) (table : table_of view ≡ table_in d) (slot : slot_of view ≡ plainly (type_in d))
     (whole : (t : Data) → IsBlockOf (block_in d) t → IsWholeView view t) where
-  is_block : (m : Moment) (v : Value) (x : IsAt h d m v) → IsBlockOf (block_in d) x.tree
+  is_block : (m : Moment) (v : Value) (x : DocIsAt h d m v) → IsBlockOf (block_in d) x.tree
   is_block m v x =
       let fits = trees h (table_in d) schema deepest (plainly (type_in d)) v x.tree x.storable.fits x.storable.tree in
       record { within = record { tree = fits.tree; nested = fits.nested; sized = x.storable.sized.0 }; spelled = x.block }

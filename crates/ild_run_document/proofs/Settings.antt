@@ -16,7 +16,7 @@ use Rattle.ild_script_session.specs.Step.{Carries}
 use Rattle.ild_script_meaning.specs.Lines.{Setting, printed, root_reply, typed_lines}
 use Rattle.ild_view_doc.specs.Docs.{table_in, type_in, block_in}
 use Rattle.ild_view_doc.specs.declared.doc.Doc.{Doc}
-use Rattle.ild_run_standing.specs.Standing.{IsAt, IsBegin, IsOf, setting_of}
+use Rattle.ild_run_standing.specs.Standing.{DocIsAt, IsBegin, IsOf, setting_of}
 use Rattle.ild_run_document.specs.Null.{null_text}
 
 pub settings : (h : List ℕ → List ℕ) (old new : Doc) (tests : Tests) → table_in new ≡ table_in old → type_in new ≡ type_in old → setting_of h old tests ≡ setting_of h new tests
@@ -35,7 +35,7 @@ pub storable_on : (h : List ℕ → List ℕ) (old new : Doc) (v : Value) (t : D
 storable_on h old new v t table type s =
     subst (λ (n : TypeNo). Storable bare h (table_in new) n v t) (sym type) (subst (λ (rows : List Row). Storable bare h rows (type_in old) v t) (sym table) s)
 
-pub of_at : (h : List ℕ → List ℕ) (d : Doc) (m : Moment) (v : Value) → IsAt h d m v → IsOf h d v
+pub of_at : (h : List ℕ → List ℕ) (d : Doc) (m : Moment) (v : Value) → DocIsAt h d m v → IsOf h d v
 of_at h d m v x = record { tree = x.tree; storable = x.storable; block = x.block }
 
 -- the same block of the same type is of the same value
@@ -45,7 +45,7 @@ of_same h old new v table type block x = record { tree = x.tree; storable = stor
 pub begin_on : (h : List ℕ → List ℕ) (old new b : Doc) (kept : Value) → table_in new ≡ table_in old → type_in new ≡ type_in old → IsBegin h old b kept → IsBegin h new b kept
 begin_on h old new b kept table type x = record { same = (x.same.0 ∙ sym table, x.same.1 ∙ sym type); of = x.of }
 
-pub root_is : (h : List ℕ → List ℕ) (d : Doc) (tests : Tests) (m : Moment) (v : Value) → IsAt h d m v → root_reply (setting_of h d tests) v ≡ R.Root (record { 0 = id_of (block_in d) })
+pub root_is : (h : List ℕ → List ℕ) (d : Doc) (tests : Tests) (m : Moment) (v : Value) → DocIsAt h d m v → root_reply (setting_of h d tests) v ≡ R.Root (record { 0 = id_of (block_in d) })
 root_is h d tests m v x = ap (λ o. R.Root (record { 0 = option_map_or (root_id bare) o [] })) x.storable.tree ∙ ap (λ b. R.Root (record { 0 = id_of b })) (sym x.block)
 
 pub null_is : printed D.null ≡ R.Ok null_text

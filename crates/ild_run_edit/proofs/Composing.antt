@@ -37,7 +37,7 @@ use Rattle.ild_path_room.specs.Room.{by_set, by_insert}
 use Rattle.ild_run_edit.specs.Edits.{edit_of}
 use Rattle.ild_run_edit.specs.inside.Moves.{due_of, edited_by, Moves, MoveAnswer, IsIn, Fails, ComesTo, GoesFrom}
 use Rattle.ild_run_edit.specs.inside.Swaps.{SwapsTo}
-use Rattle.ild_run_edit.specs.inside.Roots.{verb_as, FindAnswer, Finds, FindFails, Makes, MakesRoot}
+use Rattle.ild_run_edit.specs.inside.Roots.{verb_as, FindAnswer, PlaceIsFound, FindFails, RootIsMade, MakesRoot}
 use Rattle.ild_run_edit.specs.declared.verb.EditVerb.{EditVerb}
 use Rattle.ild_run_edit.specs.declared.verb.EditVerb.TheVariants as E
 use Rattle.ild_run_standing.specs.Laws.{HeldAreStanding}
@@ -117,7 +117,7 @@ module _ (h : List ℕ → List ℕ) (rows : List Row) (t : Tests) (n : TypeNo) 
   gets_are = refl
 
   -- gets, and then the edit at the place
-  moved_on : (m k j : Moment) (r : Result (List ℕ) No) → OnlyReads m k → k.gets + 1 ≤ m.gets + blocks_met h rows (plainly n, v) (path_of e) → Moves h rows t n v e k r j → Makes h rows t n v e m r j
+  moved_on : (m k j : Moment) (r : Result (List ℕ) No) → OnlyReads m k → k.gets + 1 ≤ m.gets + blocks_met h rows (plainly n, v) (path_of e) → Moves h rows t n v e k r j → RootIsMade h rows t n v e m r j
   moved_on m k j r o met x = record {
     answer = answer_later m k j r o x.answer;
     gains = gains_later m k j (due_of h rows t n v e) o.blocks x.gains;
@@ -127,7 +127,7 @@ module _ (h : List ℕ → List ℕ) (rows : List Row) (t : Tests) (n : TypeNo) 
   }
 
   -- gets alone
-  refused_on : (m k : Moment) (r : No) → OnlyReads m k → k.gets + 1 ≤ m.gets + blocks_met h rows (plainly n, v) (path_of e) → MoveAnswer h rows t n v e m (Err r) k → Makes h rows t n v e m (Err r) k
+  refused_on : (m k : Moment) (r : No) → OnlyReads m k → k.gets + 1 ≤ m.gets + blocks_met h rows (plainly n, v) (path_of e) → MoveAnswer h rows t n v e m (Err r) k → RootIsMade h rows t n v e m (Err r) k
   refused_on m k r o met a = record { answer = a; gains = gains_same m k (due_of h rows t n v e) o.blocks; still = λ none. o.blocks; gets = omega arith; puts = let q = o.puts in omega arith }
 
   -- ---- no place
@@ -229,7 +229,7 @@ of_type_is : {rows : List Row} {n : TypeNo} {place : Place} → IsPlaceOf rows n
 of_type_is x = ap (λ (s : Slot). s.ty) x.slot
 
 module _ (standing : HeldAreStanding) (h : List ℕ → List ℕ) (d : Doc) (verb : EditVerb) (path : List (List ℕ)) (json : List ℕ) (texts : AllByRecursion IsUtf8 path) where
-  pub refused_root : (m k : Moment) (r : No) → Finds h d (verb_as verb) path m (Err r) k → MakesRoot h d (edit_of verb path json) m (Err r) k
+  pub refused_root : (m k : Moment) (r : No) → PlaceIsFound h d (verb_as verb) path m (Err r) k → MakesRoot h d (edit_of verb path json) m (Err r) k
   refused_root m k r x = record {
     later = x.only.later;
     fails = find_no m k r x.fails;
@@ -247,7 +247,7 @@ module _ (standing : HeldAreStanding) (h : List ℕ → List ℕ) (d : Doc) (ver
       (t : Tests) (v : Value) (u : Data) (was : List (List ℕ)) → k.blocks ≡ Some was → AreTests rows t → Storable bare h rows n v u → IsPlaceIn h rows was (plainly n, v) path (verb_as verb) place
       → Moves h rows t n v (edit_of verb path json) k r j
 
-  made_root : (m k j : Moment) (place : Place) (r : Result (List ℕ) No) → Finds h d (verb_as verb) path m (Ok place) k → Later k j → Fails k r j → All (table_at place) (type_at place) place k r j
+  made_root : (m k j : Moment) (place : Place) (r : Result (List ℕ) No) → PlaceIsFound h d (verb_as verb) path m (Ok place) k → Later k j → Fails k r j → All (table_at place) (type_at place) place k r j
       → MakesRoot h d (edit_of verb path json) m r j
   made_root m k j place r x later fails moves =
       let in_doc : All (table_in d) (type_in d) place k r j = subst (λ n. All (table_in d) n place k r j) (of_type_is x.of) (subst (λ rows. All rows (type_at place) place k r j) x.of.table moves) in
@@ -272,7 +272,7 @@ IsBringing E.Ins = Unit {0}
 IsBringing E.Del = ⊥
 
 module _ (standing : HeldAreStanding) (h : List ℕ → List ℕ) (d : Doc) (path : List (List ℕ)) (json : List ℕ) (texts : AllByRecursion IsUtf8 path) where
-  pub come_root : (verb : EditVerb) → IsBringing verb → (m k j : Moment) (place : Place) (r : Result (List ℕ) No) → Finds h d (verb_as verb) path m (Ok place) k → ComesTo h place json k r j → MakesRoot h d (edit_of verb path json) m r j
+  pub come_root : (verb : EditVerb) → IsBringing verb → (m k j : Moment) (place : Place) (r : Result (List ℕ) No) → PlaceIsFound h d (verb_as verb) path m (Ok place) k → ComesTo h place json k r j → MakesRoot h d (edit_of verb path json) m r j
   come_root E.Set b m k j place r x c =
       made_root standing h d E.Set path json texts m k j place r x c.later c.fails
       (λ t v u was told tests s is. c.moves t v by_set path (record { at = is_in h place t v path k u was texts told tests s; is = is }))
@@ -281,10 +281,10 @@ module _ (standing : HeldAreStanding) (h : List ℕ → List ℕ) (d : Doc) (pat
       (λ t v u was told tests s is. c.moves t v by_insert path (record { at = is_in h place t v path k u was texts told tests s; is = is }))
   come_root E.Del b m k j place r x c = absurd b
 
-  pub go_root : (verb : EditVerb) → verb ≡ E.Del → (m k j : Moment) (place : Place) (r : Result (List ℕ) No) → Finds h d (verb_as verb) path m (Ok place) k → GoesFrom h place k r j → MakesRoot h d (edit_of verb path json) m r j
+  pub go_root : (verb : EditVerb) → verb ≡ E.Del → (m k j : Moment) (place : Place) (r : Result (List ℕ) No) → PlaceIsFound h d (verb_as verb) path m (Ok place) k → GoesFrom h place k r j → MakesRoot h d (edit_of verb path json) m r j
   go_root verb is m k j place r x c =
       subst (λ verb. MakesRoot h d (edit_of verb path json) m r j) (sym is)
-      (made_root standing h d E.Del path json texts m k j place r (subst (λ verb. Finds h d (verb_as verb) path m (Ok place) k) is x) c.later c.fails
+      (made_root standing h d E.Del path json texts m k j place r (subst (λ verb. PlaceIsFound h d (verb_as verb) path m (Ok place) k) is x) c.later c.fails
       (λ t v u was told tests s is. c.moves t v path (record { at = is_in h place t v path k u was texts told tests s; is = is })))
 
 -- the block is one of the document's type

@@ -22,7 +22,7 @@ use Rattle.ild_typed.specs.At.{InSlot}
 use Rattle.ild_typed.specs.Stands.{Stands, bare}
 use Rattle.ild_view_doc.specs.Docs.{block_in, table_in, type_in}
 use Rattle.ild_view_doc.specs.declared.doc.Doc.{Doc}
-use Rattle.ild_run_edit.specs.inside.Roots.{FindAnswer, FindFails, Finds, no_place, verb_as}
+use Rattle.ild_run_edit.specs.inside.Roots.{FindAnswer, FindFails, PlaceIsFound, no_place, verb_as}
 use Rattle.ild_run_edit.specs.declared.verb.EditVerb.{EditVerb}
 use Rattle.ild_run_edit.specs.declared.verb.EditVerb.TheVariants as E
 
@@ -41,7 +41,7 @@ one_more : (a b c : ℕ) → a ≤ b + c → a + 1 ≤ b + (1 + c)
 one_more a b c le = omega (arith, le)
 
 module _ (h : List ℕ → List ℕ) (d : Doc) (verb : Verb) (path : List (List ℕ)) (m n : Moment) where
-  pub finds_place : PlacesTell → (place : Place) → OnlyReads m n → IsPlaceOf (table_in d) (type_in d) place → verb_in place ≡ verb → Rooted h d m (Ok place) → Located h d verb path m (Ok place) n → Finds h d verb path m (Ok place) n
+  pub finds_place : PlacesTell → (place : Place) → OnlyReads m n → IsPlaceOf (table_in d) (type_in d) place → verb_in place ≡ verb → Rooted h d m (Ok place) → Located h d verb path m (Ok place) n → PlaceIsFound h d verb path m (Ok place) n
   finds_place tell place only of done rooted x = record {
     only = only;
     of = of;
@@ -66,7 +66,7 @@ module _ (h : List ℕ → List ℕ) (d : Doc) (verb : Verb) (path : List (List 
   answer_so rows was p law F.Store a = a
   answer_so rows was p law F.Memory a = a
 
-  pub finds_none : FaultsAreRefusals → (f : PathFault) → OnlyReads m n → FailsOnly {A = Place} m (Err f) n → Located h d verb path m (Err f) n → Finds h d verb path m (Err (no_place f)) n
+  pub finds_none : FaultsAreRefusals → (f : PathFault) → OnlyReads m n → FailsOnly {A = Place} m (Err f) n → Located h d verb path m (Err f) n → PlaceIsFound h d verb path m (Err (no_place f)) n
   finds_none laws f only failed x = record {
     only = only;
     of = tt;

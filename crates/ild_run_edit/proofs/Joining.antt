@@ -5,7 +5,7 @@ use Rattle.std.specs.List.{AllByRecursion}
 use Rattle.std.proofs.lemmas.Option.{same_Some}
 use Rattle.ild_edges.specs.Gained.{AreIdsGiven}
 use Rattle.ild_cbor.specs.Block.{IsBlockOf}
-use Rattle.ild_cbor.specs.Nodes.{Stands as StandsFor}
+use Rattle.ild_cbor.specs.Nodes.{HasData as StandsFor}
 use Rattle.ild_cbor.specs.declared.node.Node.{Node}
 use Rattle.ild_data.specs.Data.{Data}
 use Rattle.ild_data.specs.Spell.{spell}
@@ -38,7 +38,7 @@ use Rattle.ild_path_around.specs.Telling.{PlacesTellOn}
 use Rattle.ild_path_place.specs.Tells.{slot_in, table_at, type_at}
 use Rattle.ild_path_place.specs.declared.place.Place.{Place}
 use Rattle.ild_path_way.specs.Way.{nodes_met}
-use Rattle.ild_path.specs.Replaces.{Brings, ComesBy, IsPart, Spares}
+use Rattle.ild_path.specs.Replaces.{Brings, ComesBy, IsHeldPart, Spares}
 use Rattle.ild_path.specs.declared.fault.EditFault.{EditFault}
 use Rattle.ild_path.specs.declared.fault.EditFault.TheVariants as F
 use Rattle.ild_path_room.specs.Room.{Coming, by_set, by_insert}
@@ -150,9 +150,9 @@ module _ (h : List ℕ → List ℕ) (place : Place) (w : Value) (json : List �
       let now = told_later y.coming.at.was m.blocks k.blocks y.coming.at.told before.keeps in
       let held = subst (λ (o : Option (List (List ℕ))). IfTold o (λ now. IsHeld (block_at now) h rows z.room (slot_in place) z.tree w)) now.1 z.held in
       let here = stay h rows y.coming.at.was now.0 p path (verb_of how) place now.2 y.coming.is in
-      let part : IsPart h rows now.0 (slot_in place) item w = record { room = z.room; tree = z.tree; held = held; stands_for = stands z.tree z.block } in
+      let part : IsHeldPart h rows now.0 (slot_in place) item w = record { room = z.room; tree = z.tree; held = held; stands_for = stands z.tree z.block } in
       let q = x now.0 n v w c d.0 path (verb_of how) (bringing how path w) now.1 (record { rooted = here.rooted; is = here.is }) (comes_by how path w)
-      (λ s is. subst (λ s. IsPart h rows now.0 s item w) (same_Some (slot_in place) s (sym slot ∙ is)) part)
+      (λ s is. subst (λ s. IsHeldPart h rows now.0 s item w) (same_Some (slot_in place) s (sym slot ∙ is)) part)
       (record { is_key = t.is_key; keys = tests.keys; made = y.made; tree = d.1; fits = y.free.fits }) in
       let brought = given_later k.given j.given (nodes h rows (slot_in place) w) spares.later.given z.given in
       let passing = told_ok r j.given (AreIdsGiven (nodes h rows (slot_in place) w)) (AreIdsGiven (spell d.0 ∷ nodes_met h rows (plainly n, c) path))

@@ -23,7 +23,7 @@ use Rattle.ild_path_edits.specs.Edit.{Edit}
 use Rattle.ild_path_edits.specs.Judged.{Tests}
 use Rattle.ild_run_edit.specs.Edits.{Edits, IsOfEdit, edit_of}
 use Rattle.ild_run_edit.specs.inside.Moves.{Fails, IsNewRoot, due_of, edited_by}
-use Rattle.ild_run_edit.specs.inside.Roots.{Makes, MakesRoot}
+use Rattle.ild_run_edit.specs.inside.Roots.{RootIsMade, MakesRoot}
 use Rattle.ild_run_edit.specs.declared.verb.EditVerb.{EditVerb}
 use Rattle.ild_run_edit.proofs.Passing.{itself_passes, told_any, told_both}
 use Rattle.ild_run_standing.specs.Answers.{PassesOn}
@@ -105,7 +105,7 @@ module _ (h : List ℕ → List ℕ) (old : Doc) (e : Edit (List ℕ)) (m n : Mo
   abbrev w : Setting
   w = setting_of h old t
 
-  refused_replies : (r : No) → Later m n → Makes h (table_in old) t (type_in old) v e m (Err r) n → Replies (typed_lines w) m (resting v) (due w (to_edit e) (idle v)) (Some (R.No r)) n (resting v)
+  refused_replies : (r : No) → Later m n → RootIsMade h (table_in old) t (type_in old) v e m (Err r) n → Replies (typed_lines w) m (resting v) (due w (to_edit e) (idle v)) (Some (R.No r)) n (resting v)
   refused_replies r later x = record {
     answered = by x.answer;
     later = later;
@@ -176,7 +176,7 @@ module _ (at_standing : StandingAreAt) (h : List ℕ → List ℕ) (old new : Do
   root_reply : ◌≡◌ {A = Option Reply} (Some (R.Root (record { 0 = id_of (block_in new) }))) (Some (edit_reply after (Ok x.value) None))
   root_reply = (λ i. Some (R.Root (record { 0 = id_of ((block ∙ x.spelled) i) }))) ∙ sym (ap (λ o. Some (R.Root (record { 0 = option_map_or (root_id bare) o [] }))) x.storable.tree)
 
-  done_replies : Makes h (table_in old) t (type_in old) v e m (Ok b) n → Replies (typed_lines after) m (resting v) (due after (to_edit e) (idle v)) (Some (R.Root (record { 0 = id_of (block_in new) }))) n (resting x.value)
+  done_replies : RootIsMade h (table_in old) t (type_in old) v e m (Ok b) n → Replies (typed_lines after) m (resting v) (due after (to_edit e) (idle v)) (Some (R.Root (record { 0 = id_of (block_in new) }))) n (resting x.value)
   done_replies y = record {
     answered = inl (root_reply ∙ ap (λ r. Some (edit_reply after r None)) (sym x.edited), ap (λ r. edit_next (idle v) r) (sym x.edited));
     later = later;

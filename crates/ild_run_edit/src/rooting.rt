@@ -3,7 +3,7 @@ ghost use Rattle.std.specs.Prelude.{◌≡◌, Err, IfOk, IsUtf8};
 ghost use Rattle.std.specs.List.{AllByRecursion};
 ghost use Rattle.ild_run_edit.specs.Edits.{edit_of};
 ghost use Rattle.ild_run_edit.specs.Naming.{NamesClash};
-ghost use Rattle.ild_run_edit.specs.inside.Roots.{Finds, MakesRoot, no_place, verb_as};
+ghost use Rattle.ild_run_edit.specs.inside.Roots.{PlaceIsFound, MakesRoot, no_place, verb_as};
 ghost use Rattle.ild_script.specs.declared.reply.No.TheVariants as refusal;
 ghost use Rattle.ild_view_doc.specs.Block.{HasRoot};
 ghost use Rattle.ild_view_doc.specs.Docs.{table_in, type_in};
@@ -63,7 +63,7 @@ fn located<'b, K: Store, H: KeyHash>(
     keys: &H,
     store: &mut K,
 ) -> Result<Place<'b>, No>
-    ensures { Finds H.hash_of doc.now verb path.now (K.moment store.old) result (K.moment store.new) }
+    ensures { PlaceIsFound H.hash_of doc.now verb path.now (K.moment store.old) result (K.moment store.new) }
 {
     // These two do no work: their clauses say what a place tells, and why there is none.
     places_tell();

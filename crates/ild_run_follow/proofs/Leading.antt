@@ -31,7 +31,7 @@ use Rattle.ild_view.specs.declared.step.NoPath.{NoPath}
 use Rattle.ild_view.specs.declared.step.Step.{Step}
 use Rattle.ild_view.specs.declared.step.Step.TheVariants as S
 use Rattle.ild_view.specs.declared.view.View.{View}
-use Rattle.ild_run_follow.specs.Tells.{FailsOnly, IsAt, TellAnswer, TellsFrom, TellsHere, TellsIn, TellsNothing, counts, part_nodes}
+use Rattle.ild_run_follow.specs.Tells.{FailsOnly, ViewIsHeld, TellAnswer, TellsFrom, TellsHere, TellsIn, TellsNothing, counts, part_nodes}
 use Rattle.ild_run_follow.specs.Told.{told}
 use Rattle.ild_run_follow.specs.declared.fault.ReadFault.{ReadFault}
 use Rattle.ild_run_follow.specs.declared.fault.ReadFault.TheVariants as F
@@ -214,7 +214,7 @@ module _ (h : List ℕ → List ℕ) (view : View) (schema : IsSchema (table_of 
   abbrev At : Value → InSlot
   At v = (slot_of view, v)
 
-  leads_at : (t : Data) (v : Value) (x : IsAt h view m t v) → Leads (block_at x.held) h rows 96 k (At v) path (reached rows k (front_in h rows (At v)) path)
+  leads_at : (t : Data) (v : Value) (x : ViewIsHeld h view m t v) → Leads (block_at x.held) h rows 96 k (At v) path (reached rows k (front_in h rows (At v)) path)
   leads_at t v x = paths_lead (block_at x.held) h rows schema 96 k (At v) t path x.value
 
   -- here

@@ -29,7 +29,7 @@ use Rattle.ild_typed.specs.Schema.{IsSchema}
 use Rattle.ild_view.specs.View.{IsView, slot_of, table_of}
 use Rattle.ild_view.specs.declared.view.View.{View}
 use Rattle.ild_run_follow.specs.inside.Faults.{open_fault}
-use Rattle.ild_run_follow.specs.Tells.{FailsOnly, IsAt, LoadAnswer, LoadsPart, TellAnswer, TellsHere, ToldBy, counts, part_nodes}
+use Rattle.ild_run_follow.specs.Tells.{FailsOnly, ViewIsHeld, LoadAnswer, LoadsPart, TellAnswer, TellsHere, ToldBy, counts, part_nodes}
 use Rattle.ild_run_follow.specs.Told.{is_loaded, told}
 use Rattle.ild_run_follow.specs.declared.fault.ReadFault.{ReadFault}
 use Rattle.ild_run_follow.specs.declared.fault.ReadFault.TheVariants as F
@@ -44,10 +44,10 @@ loaded_as (Ok v) = Ok v
 loaded_as (Err e) = Err (open_fault e)
 
 module _ (h : List ℕ → List ℕ) (view : View) (schema : IsSchema (table_of view)) (at : List ℕ) (m n : Moment) where
-  is_shown : (t : Data) (v : Value) → IsAt h view m t v → IsShown view t
+  is_shown : (t : Data) (v : Value) → ViewIsHeld h view m t v → IsShown view t
   is_shown t v x = let f = values_fronts h (table_of view) schema 96 (slot_of view) v t x.value.fits x.value.tree in record { stands = x.stands; front = (f.0, f.1.fits, f.1.tree) }
 
-  load_answer : OnlyReads m n → (t : Data) (v : Value) (x : IsAt h view m t v) (r : Result Val OpenFault) → L.LoadAnswer h view at m t r n → LoadAnswer v m (loaded_as r) n
+  load_answer : OnlyReads m n → (t : Data) (v : Value) (x : ViewIsHeld h view m t v) (r : Result Val OpenFault) → L.LoadAnswer h view at m t r n → LoadAnswer v m (loaded_as r) n
   load_answer only t v x (Ok val) a =
       one_is_held (block_at x.held) h (table_of view) schema 96 (omega arith) (slot_of view) t (value_of val) v (safe_is (table_of view) (slot_of view) view.safe) (from_told n (λ held. L.IsValueAt h held view t (value_of val)) a x.held (only.blocks ∙ x.told)) x.value
   load_answer only t v x (Err (O.Block id why)) a = absurd (a.0 x.held v x.told x.value)

@@ -1,7 +1,7 @@
 -- A block that is refused where a path is followed is broken, on the way or in the part.
 use Rattle.std.proofs.Common.{◌≡◌, inl, inr, ⊎_elim, ℕ, zero, suc, ◌+◌, Bool, true, false, true≢false, List, length, Some, Result, Ok, Err, refl, sym, ap, ◌∙◌, subst}
 use Rattle.std.proofs.lemmas.Option.{same_Some}
-use Rattle.ild_cbor.specs.Nodes.{Stands}
+use Rattle.ild_cbor.specs.Nodes.{HasData}
 use Rattle.ild_cbor.specs.declared.node.Node.{Node}
 use Rattle.ild_cbor.specs.declared.piece.Piece.TheVariants as P
 use Rattle.ild_cbor.specs.declared.why.BlockWhy.{BlockWhy}
@@ -59,7 +59,7 @@ use Rattle.ild_run_follow.proofs.Loading.{loaded_as}
 use Rattle.ild_run_follow.proofs.Shallow.{shown_part}
 use Rattle.ild_run_follow.specs.inside.Enters.{ChecksEntry, RefusesEntry, WalksTrie}
 use Rattle.ild_run_follow.specs.inside.Faults.{entered_as}
-use Rattle.ild_run_follow.specs.Refuses.{HasWrongAlong, IsWrongAlong, IsWrongThrough, Refuses, RefusesAlong, RefusesIn, RefusesPart, in_full}
+use Rattle.ild_run_follow.specs.Refuses.{HasWrongAlong, IsWrongAlong, IsWrongThrough, RefusesBlock, RefusesAlong, RefusesIn, RefusesPart, in_full}
 use Rattle.ild_run_follow.specs.Tells.{TellsNothing}
 use Rattle.ild_run_follow.specs.declared.fault.ReadFault.{ReadFault}
 use Rattle.ild_run_follow.specs.declared.fault.ReadFault.TheVariants as F
@@ -69,23 +69,23 @@ use Rattle.ild_run_follow.specs.declared.kind.Tell.TheVariants as T
 -- ---- whatever is said of a block that is refused
 
 module _ (P : List ℕ → BlockWhy → Type 0) where
-  refuses_more : (A : Type 0) (Q : List ℕ → BlockWhy → Type 0) → ((id : List ℕ) (why : BlockWhy) → P id why → Q id why) → (r : Result A ReadFault) → Refuses P r → Refuses Q r
+  refuses_more : (A : Type 0) (Q : List ℕ → BlockWhy → Type 0) → ((id : List ℕ) (why : BlockWhy) → P id why → Q id why) → (r : Result A ReadFault) → RefusesBlock P r → RefusesBlock Q r
   refuses_more A Q more (Ok a) x = tt
   refuses_more A Q more (Err F.Path) x = tt
   refuses_more A Q more (Err (F.Block id why)) x = more id.0 why x
   refuses_more A Q more (Err F.Store) x = tt
   refuses_more A Q more (Err F.Memory) x = tt
 
-  refuses_same : (A B : Type 0) (e : ReadFault) → Refuses {A = A} P (Err e) → Refuses {A = B} P (Err e)
+  refuses_same : (A B : Type 0) (e : ReadFault) → RefusesBlock {A = A} P (Err e) → RefusesBlock {A = B} P (Err e)
   refuses_same A B F.Path x = tt
   refuses_same A B (F.Block id why) x = x
   refuses_same A B F.Store x = tt
   refuses_same A B F.Memory x = tt
 
-  path_refuses : (A : Type 0) (e : ReadFault) → e ≡ F.Path → Refuses {A = A} P (Err e)
-  path_refuses A e is = subst (λ (x : ReadFault). Refuses {A = A} P (Err x)) (sym is) tt
+  path_refuses : (A : Type 0) (e : ReadFault) → e ≡ F.Path → RefusesBlock {A = A} P (Err e)
+  path_refuses A e is = subst (λ (x : ReadFault). RefusesBlock {A = A} P (Err x)) (sym is) tt
 
-  nothing_refuses : (tell : Tell) (r : Result Tree ReadFault) → TellsNothing tell r → Refuses P r
+  nothing_refuses : (tell : Tell) (r : Result Tree ReadFault) → TellsNothing tell r → RefusesBlock P r
   nothing_refuses tell (Ok tree) x = tt
   nothing_refuses T.Presence (Err e) x = absurd x
   nothing_refuses T.Shown (Err e) x = path_refuses Tree e x
@@ -188,9 +188,9 @@ module _ (h : List ℕ → List ℕ) (view : View) (slot : Slot) (room : ℕ) (b
   pub stops_in : (e : ReadFault) → Walks (Err e) → RefusesIn {A = Tree} h Rows z m (Err e) n
   stops_in e walks =
       let w = walks z.shape z.slots has_slots in
-      refuses_same (λ id why. Says id why) Trail Tree e (subst (λ (r : Result Trail ReadFault). Refuses (λ id why. Says id why) r) (sym w.is) (by w.found w.walk))
+      refuses_same (λ id why. Says id why) Trail Tree e (subst (λ (r : Result Trail ReadFault). RefusesBlock (λ id why. Says id why) r) (sym w.is) (by w.found w.walk))
     where
-      by : (r : Result Trail HamtFault) → Descends h z.shape k z.slots m r n → Refuses (λ id why. Says id why) (entered_as r)
+      by : (r : Result Trail HamtFault) → Descends h z.shape k z.slots m r n → RefusesBlock (λ id why. Says id why) (entered_as r)
       by (Ok t) d = tt
       by (Err (H.Block id why)) d = inl (descent_wrong h z.shape m n z.slots z.block k block id why x.block_is d)
       by (Err H.Store) d = tt
@@ -211,7 +211,7 @@ module _ (h : List ℕ → List ℕ) (view : View) (slot : Slot) (room : ℕ) (b
     same_end = ap id_of (ends ∙ ap (end_block block) Walk.answer.blocks)
 
     -- at an entry whose value is none of the HAMT's
-    pub stops_at : (e : ReadFault) → ((d : Data) → Stands item d → RefusesEntry Rows (form_of Rows (slot_of view)) end d (Err e)) → RefusesIn {A = Tree} h Rows z m (Err e) n
+    pub stops_at : (e : ReadFault) → ((d : Data) → HasData item d → RefusesEntry Rows (form_of Rows (slot_of view)) end d (Err e)) → RefusesIn {A = Tree} h Rows z m (Err e) n
     stops_at F.Path says = tt
     stops_at (F.Block id why) says =
         let y = Item in
@@ -226,7 +226,7 @@ module _ (h : List ℕ → List ℕ) (view : View) (slot : Slot) (room : ℕ) (b
     only = record { later = Walk.reads.later; blocks = Walk.reads.blocks; given = Walk.reads.given; puts = Walk.reads.puts }
 
     -- on from the value of the entry
-    pub goes_on : (part : View) (o : Moment) (r : Result Tree ReadFault) → ((d : Data) → Stands item d → ChecksEntry Rows (form_of Rows (slot_of view)) item d (Ok part))
+    pub goes_on : (part : View) (o : Moment) (r : Result Tree ReadFault) → ((d : Data) → HasData item d → ChecksEntry Rows (form_of Rows (slot_of view)) item d (Ok part))
         → ((f : Value) (d : Data) → IsView part f → Front (table_of part) deepest (slot_of part) f d → RefusesAlong h (table_of part) (id_of end) (slot_of part) d n r o) → RefusesIn h Rows z m r o
     goes_on part o r checks says =
         let y = Item in

@@ -4,7 +4,7 @@ use Rattle.std.specs.Option.{option_map_or}
 use Rattle.std.proofs.Math.Logic.{∥∥₁_map}
 use Rattle.ild_cbor.specs.declared.node.Node.{Node}
 use Rattle.ild_cbor.specs.declared.piece.Piece.TheVariants as P
-use Rattle.ild_cbor.specs.Nodes.{Stands}
+use Rattle.ild_cbor.specs.Nodes.{HasData}
 use Rattle.ild_data.specs.Data.{Data}
 use Rattle.ild_schema.specs.Value as V
 use Rattle.ild_schema.specs.Value.{Value}
@@ -56,7 +56,7 @@ shallow_here view schema k path w steps some = ∥∥₁_map some (λ y.
     leads_to (table_of view) schema k (slot_of view, f.0) path w f.1
     (steps f.0 (record { room = 96; tree = y.tree; stands = y.shown.stands; front = record { fits = f.1; tree = f.2 } })))
 
-pub shallow_entry : (rows : List Row) (o : Option TypeDef) (node : Node) (w : View) → ∥ ((d : Data) × Stands node d) ∥₁ → ((d : Data) → Stands node d → ChecksEntry rows o node d (Ok w)) → ∥ IsShallow w ∥₁
+pub shallow_entry : (rows : List Row) (o : Option TypeDef) (node : Node) (w : View) → ∥ ((d : Data) × HasData node d) ∥₁ → ((d : Data) → HasData node d → ChecksEntry rows o node d (Ok w)) → ∥ IsShallow w ∥₁
 shallow_entry rows o node w some checks = ∥∥₁_map some (λ y.
     let x = checks y.0 y.1 in
     let at = x.2 in

@@ -18,13 +18,13 @@ use Rattle.ild_view.specs.Body.{BodyStands}
 use Rattle.ild_view.specs.Parts.{IsPartView}
 use Rattle.ild_view.specs.View.{IsView, body_of, slot_of, table_of}
 use Rattle.ild_view.specs.declared.view.View.{View}
-use Rattle.ild_run_follow.specs.Tells.{IsAt}
+use Rattle.ild_run_follow.specs.Tells.{ViewIsHeld}
 use Rattle.ild_view.proofs.Opening.{safe_is}
 
 -- ---- values at views
 
 -- the front of a value that is held at a view is what the view stands for
-pub viewed : (h : List ℕ → List ℕ) (view : View) (m : Moment) (t : Data) (v : Value) → IsSchema (table_of view) → IsAt h view m t v → IsView view (front h (table_of view) (slot_of view) v)
+pub viewed : (h : List ℕ → List ℕ) (view : View) (m : Moment) (t : Data) (v : Value) → IsSchema (table_of view) → ViewIsHeld h view m t v → IsView view (front h (table_of view) (slot_of view) v)
 viewed h view m t v schema at = record {
   room = 96;
   tree = t;
@@ -34,7 +34,7 @@ viewed h view m t v schema at = record {
 
 -- and a view of the front of a value that is held is one of its data
 at_view : (h : List ℕ → List ℕ) (held : List (List ℕ)) (m : Moment) → m.blocks ≡ Some held → (view : View) (p : InSlot) (f : Value) → slot_of view ≡ p.0 → f ≡ front h (table_of view) p.0 p.1 → IsView view f
-    → (tree : Data) → IsHeld (block_at held) h (table_of view) 96 p.0 tree p.1 → IsAt h view m tree p.1
+    → (tree : Data) → IsHeld (block_at held) h (table_of view) 96 p.0 tree p.1 → ViewIsHeld h view m tree p.1
 at_view h held m told view p f is_slot is_front v tree has =
     let rows = table_of view in
     let same : v.tree ≡ tree =
@@ -47,7 +47,7 @@ at_view h held m told view p f is_slot is_front v tree has =
     }
 
 pub part_at : (h : List ℕ → List ℕ) (rows : List Row) (held : List (List ℕ)) (m : Moment) → m.blocks ≡ Some held → (q p : InSlot) (view : View) → IsPartView rows q view → (x : IsFrontOf (block_at held) h rows 96 q p)
-    → IsAt h view m x.tree p.1
+    → ViewIsHeld h view m x.tree p.1
 part_at h rows held m told q p view w x =
     let slot : slot_of view ≡ p.0 = w.slot ∙ ap (λ (y : InSlot). y.0) x.front in
     let own : q.1 ≡ front h rows p.0 p.1 = ap (λ (y : InSlot). y.1) x.front in

@@ -25,7 +25,7 @@ use Rattle.ild_typed.proofs.FormOf.{hamt_form}
 use Rattle.ild_typed.proofs.OneLayer.{in_layer}
 use Rattle.ild_typed.specs.Fits.{Fits}
 use Rattle.ild_typed.specs.Layer as Y
-use Rattle.ild_typed.specs.Layers.{Shows}
+use Rattle.ild_typed.specs.Layers.{RepresentsSome}
 use Rattle.ild_typed.specs.OfType.{OfType}
 use Rattle.ild_typed.specs.Schema.{IsSchema}
 use Rattle.ild_typed.specs.WhyLaws.{RefusedHaveNoFront}
@@ -69,7 +69,7 @@ module _ (rows : List Row) (schema : IsSchema rows) (never : RefusedHaveNoFront)
   pub checks_refused : (id : BlockId) (w : BlockWhy) (ty : TypeNo) (why : Why) → IsRefusal rows 96 slot t ty why → ChecksEntry rows d node t (Err (F.Block id w))
   checks_refused id w ty why v = λ s e shows.
       let same : s ≡ slot = same_Some s slot (sym e ∙ is.0) in
-      let f : Shows (Fits rows 96) rows slot t = subst (λ (u : Slot). Shows (Fits rows 96) rows u t) same shows in
+      let f : RepresentsSome (Fits rows 96) rows slot t = subst (λ (u : Slot). RepresentsSome (Fits rows 96) rows u t) same shows in
       never rows schema 96 slot (safe_is rows slot is.2) t v.refusal v.refused f.0 (record { fits = f.1; tree = f.2 })
 
 -- what is refused of an entry

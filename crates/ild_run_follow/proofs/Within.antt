@@ -6,7 +6,7 @@ use Rattle.std.specs.Prelude.{cond, option_and_then, option_map, slice_get}
 use Rattle.std.proofs.Math.Logic.{∥∥₁_elim, ∥∥₁_map}
 use Rattle.std.proofs.lemmas.Option.{none-some, same_Some}
 use Rattle.std.proofs.Props.{props}
-use Rattle.ild_cbor.specs.Nodes.{Stands}
+use Rattle.ild_cbor.specs.Nodes.{HasData}
 use Rattle.ild_cbor.specs.declared.node.Node.{Node}
 use Rattle.ild_cbor.specs.declared.piece.Piece.TheVariants as P
 use Rattle.ild_hamt_climb.specs.Seen.{ValueIs}
@@ -53,7 +53,7 @@ use Rattle.ild_view.specs.declared.body.Body.{Body}
 use Rattle.ild_view.specs.declared.body.Body.TheVariants as B
 use Rattle.ild_view.specs.declared.view.View.{View}
 use Rattle.ild_run_follow.specs.inside.Enters.{ChecksEntry, EnterAnswer, EntersTrie, HoldsTrie}
-use Rattle.ild_run_follow.specs.Tells.{FailsOnly, IsAt, TellAnswer, TellsFrom, TellsIn, TellsNothing, counts, part_nodes}
+use Rattle.ild_run_follow.specs.Tells.{FailsOnly, ViewIsHeld, TellAnswer, TellsFrom, TellsIn, TellsNothing, counts, part_nodes}
 use Rattle.ild_run_follow.specs.Told.{told}
 use Rattle.ild_run_follow.specs.declared.fault.ReadFault.{ReadFault}
 use Rattle.ild_run_follow.specs.declared.fault.ReadFault.TheVariants as F
@@ -93,7 +93,7 @@ module _ (h : List ℕ → List ℕ) (hamt : View) (schema : IsSchema (table_of 
     pub entered : IsEntered held h rows 96 (At v) shape slots
     pub trie : HoldsTrie h shape slots (in_byte_order entered.entries) m
 
-  pub is_in : (root : NodeView) → Roots hamt (Some root) → (t : Data) (v : Value) (x : IsAt h hamt m t v) → is_root rows (At v) ≡ true → IsIn root x.held v
+  pub is_in : (root : NodeView) → Roots hamt (Some root) → (t : Data) (v : Value) (x : ViewIsHeld h hamt m t v) → is_root rows (At v) ≡ true → IsIn root x.held v
   is_in root roots t v x top =
       let is : front h rows (slot_of hamt) v ≡ V.hamt t = root_front h rows (slot_of hamt) v t x.value.tree top in
       let r = subst (λ (f : Value). RootIs (shape_in (form_of rows (slot_of hamt))) (root_in f) (Some root)) is (roots (front h rows (slot_of hamt) v) (viewed h hamt m t v schema x)) in
@@ -135,7 +135,7 @@ module _ (h : List ℕ → List ℕ) (hamt : View) (schema : IsSchema (table_of 
       read_only = only_of m k (∥∥₁_map (has_slots root roots) (λ s. (enters s.0 s.1 s.2).only))
 
       -- the gets so far
-      way_gets : (t : Data) (v : Value) (x : IsAt h hamt m t v) → is_root rows (At v) ≡ true → k.gets ≤ m.gets + counts h rows (At v) key
+      way_gets : (t : Data) (v : Value) (x : ViewIsHeld h hamt m t v) → is_root rows (At v) ≡ true → k.gets ≤ m.gets + counts h rows (At v) key
       way_gets t v x top =
           let y = is_in root roots t v x top in
           let own = (enters y.shape y.slots y.has).gets (in_byte_order y.entered.entries) y.trie in
@@ -174,7 +174,7 @@ module _ (h : List ℕ → List ℕ) (hamt : View) (schema : IsSchema (table_of 
 
       module _ (tr : Trail) (trail_is : trail ≡ Ok tr) (found : Option Node)
           (finds : (p : HamtShape) (slots : List TrieSlot) (es : List (List ℕ × Data)) → HasSlots p root slots → IsTrailOf h p key slots es tr → ValueIs (find bytewise key es) found) where
-        value_found : (t : Data) (v : Value) (x : IsAt h hamt m t v) (top : is_root rows (At v) ≡ true)
+        value_found : (t : Data) (v : Value) (x : ViewIsHeld h hamt m t v) (top : is_root rows (At v) ≡ true)
             → ValueIs (find bytewise key (in_byte_order (is_in root roots t v x top).entered.entries)) found
         value_found t v x top =
             let y = is_in root roots t v x top in
@@ -201,7 +201,7 @@ module _ (h : List ℕ → List ℕ) (hamt : View) (schema : IsSchema (table_of 
 
         -- the value at the key, with its data
         pub record IsEntry (node : Node) (held : List (List ℕ)) (v : Value) (slot : Slot) (d : Data) (w : Value) : Type 0 where
-          pub stands : Stands node d
+          pub stands : HasData node d
           pub value : IsHeld (block_at held) h rows 96 slot d w
           pub there : part (seen rows (At v)) key ≡ Some (slot, w)
           pub element : element_of (form_of rows (slot_of hamt)) ≡ Some slot
@@ -225,12 +225,12 @@ module _ (h : List ℕ → List ℕ) (hamt : View) (schema : IsSchema (table_of 
           },
         )
 
-        pub entry_at : (node : Node) → found ≡ Some node → (t : Data) (v : Value) (x : IsAt h hamt m t v) → is_root rows (At v) ≡ true → SomeEntry node x.held v
+        pub entry_at : (node : Node) → found ≡ Some node → (t : Data) (v : Value) (x : ViewIsHeld h hamt m t v) → is_root rows (At v) ≡ true → SomeEntry node x.held v
         entry_at node is t v x top =
             let y = is_in root roots t v x top in
             entry_by node x.held v y.shape y.slots y.entered _ _ is (value_found t v x top) refl (y.entered.each key)
 
-        entry_fault : (node : Node) (e : ReadFault) (o : Option Data) (held : List (List ℕ)) (v : Value) → ((d : Data) → Stands node d → ChecksEntry rows (form_of rows (slot_of hamt)) node d (Err e)) → SomeEntry node held v → TellAnswer o m (Err e) k
+        entry_fault : (node : Node) (e : ReadFault) (o : Option Data) (held : List (List ℕ)) (v : Value) → ((d : Data) → HasData node d → ChecksEntry rows (form_of rows (slot_of hamt)) node d (Err e)) → SomeEntry node held v → TellAnswer o m (Err e) k
         entry_fault node F.Path o held v checks s = absurd (checks s.1 s.3.stands)
         entry_fault node (F.Block id why) o held v checks s =
             let f = values_fronts h rows schema 96 s.0 s.2 s.1 s.3.value.fits s.3.value.tree in
@@ -238,14 +238,14 @@ module _ (h : List ℕ → List ℕ) (hamt : View) (schema : IsSchema (table_of 
         entry_fault node F.Store o held v checks s = absurd (checks s.1 s.3.stands)
         entry_fault node F.Memory o held v checks s = tt
 
-        refused_failed : (node : Node) (e : ReadFault) → ((d : Data) → Stands node d → ChecksEntry rows (form_of rows (slot_of hamt)) node d (Err e)) → FailsOnly {A = Tree} m (Err e) k
+        refused_failed : (node : Node) (e : ReadFault) → ((d : Data) → HasData node d → ChecksEntry rows (form_of rows (slot_of hamt)) node d (Err e)) → FailsOnly {A = Tree} m (Err e) k
         refused_failed node F.Path checks = tt
         refused_failed node (F.Block id why) checks = tt
         refused_failed node F.Store checks = ∥∥₁_elim node.stands (hlevel props) (λ s. absurd (checks s.of s.spells))
         refused_failed node F.Memory checks = tt
 
         -- a value that has no front
-        pub tells_refused : (node : Node) (e : ReadFault) → found ≡ Some node → ((d : Data) → Stands node d → ChecksEntry rows (form_of rows (slot_of hamt)) node d (Err e)) → TellsIn h hamt (drop j path) tell m (Err e) k
+        pub tells_refused : (node : Node) (e : ReadFault) → found ≡ Some node → ((d : Data) → HasData node d → ChecksEntry rows (form_of rows (slot_of hamt)) node d (Err e)) → TellsIn h hamt (drop j path) tell m (Err e) k
         tells_refused node e is checks = record {
           answer = λ t v x top. entry_fault node e _ x.held v checks (entry_at node is t v x top);
           gets = λ t v x top. let own = way_gets t v x top in let all = met_is v in omega (arith, own, all);
@@ -253,12 +253,12 @@ module _ (h : List ℕ → List ℕ) (hamt : View) (schema : IsSchema (table_of 
           failed = refused_failed node e checks;
         }
 
-        item_stands : (rs : List Row) (b : Body) (node : Node) (d : Data) → piece_in b ≡ Some (P.Node node) → Stands node d → BodyStands rs b d
+        item_stands : (rs : List Row) (b : Body) (node : Node) (d : Data) → piece_in b ≡ Some (P.Node node) → HasData node d → BodyStands rs b d
         item_stands rs (B.Held p) node d is stands = subst (λ q. BodyStands rs (B.Held q) d) (sym (same_Some p (P.Node node) is)) stands
         item_stands rs (B.Implicit s) node d is stands = absurd (none-some (P.Node node) is)
 
         -- on from the value
-        pub tells_on : (node : Node) (view : View) (n : Moment) (result : Result Tree ReadFault) → found ≡ Some node → ((d : Data) → Stands node d → ChecksEntry rows (form_of rows (slot_of hamt)) node d (Ok view))
+        pub tells_on : (node : Node) (view : View) (n : Moment) (result : Result Tree ReadFault) → found ≡ Some node → ((d : Data) → HasData node d → ChecksEntry rows (form_of rows (slot_of hamt)) node d (Ok view))
             → TellsFrom h view (drop (j + 1) path) tell k result n → TellsIn h hamt (drop j path) tell m result n
         tells_on node view n result is checks tells = record {
           answer = λ t v x top.
@@ -308,7 +308,7 @@ module _ (h : List ℕ → List ℕ) (hamt : View) (schema : IsSchema (table_of 
           both_only : OnlyReads m k → OnlyReads k n → OnlyReads m n
           both_only a b = only_then m k n a b
 
-          on_at : (t : Data) (v : Value) (x : IsAt h hamt m t v) (s : SomeEntry node x.held v) (w : View) → {slot : Slot} → IsViewAt rows slot (P.Node node) w → slot_of w ≡ s.0 → Node → IsAt h w k s.1 s.2
+          on_at : (t : Data) (v : Value) (x : ViewIsHeld h hamt m t v) (s : SomeEntry node x.held v) (w : View) → {slot : Slot} → IsViewAt rows slot (P.Node node) w → slot_of w ≡ s.0 → Node → ViewIsHeld h w k s.1 s.2
           on_at t v x s w c slot unused = record {
             held = x.held;
             told = read_only.blocks ∙ x.told;

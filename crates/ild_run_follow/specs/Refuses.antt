@@ -48,19 +48,19 @@ pub record HasWrongAlong (h : List ℕ → List ℕ) (rows : List Row) (told : O
 
 -- ---- what is said of a block that is refused
 
-abbrev pub Refuses : {A : Type 0} → (List ℕ → BlockWhy → Type 0) → Result A ReadFault → Type 0
-Refuses Says (Err (F.Block id why)) = Says id.0 why
-Refuses Says r = Unit {0}
+abbrev pub RefusesBlock : {A : Type 0} → (List ℕ → BlockWhy → Type 0) → Result A ReadFault → Type 0
+RefusesBlock Says (Err (F.Block id why)) = Says id.0 why
+RefusesBlock Says r = Unit {0}
 
 -- where a path is followed from data of a slot, in the block `at`
 abbrev pub RefusesAlong : {A : Type 0} → (List ℕ → List ℕ) → List Row → List ℕ → Slot → Data → Moment → Result A ReadFault → Moment → Type 0
-RefusesAlong h rows at s t m r n = Refuses (λ id why. HasWrongAlong h rows m.blocks m.lacks n.lacks at s t id why) r
+RefusesAlong h rows at s t m r n = RefusesBlock (λ id why. HasWrongAlong h rows m.blocks m.lacks n.lacks at s t id why) r
 
 -- where it is followed from a HAMT, whose key comes next
 abbrev pub RefusesIn : {A : Type 0} → (List ℕ → List ℕ) → List Row → Site → Moment → Result A ReadFault → Moment → Type 0
 RefusesIn h rows z m r n =
-    Refuses (λ id why. IsWrongThrough h rows m.blocks m.lacks n.lacks (λ block value. HasWrongAlong h rows m.blocks m.lacks n.lacks block z.value value id why) z id why) r
+    RefusesBlock (λ id why. IsWrongThrough h rows m.blocks m.lacks n.lacks (λ block value. HasWrongAlong h rows m.blocks m.lacks n.lacks block z.value value id why) z id why) r
 
 -- where the part itself is loaded
 abbrev pub RefusesPart : {A : Type 0} → (List ℕ → List ℕ) → List Row → List ℕ → Slot → Data → Moment → Result A ReadFault → Moment → Type 0
-RefusesPart h rows at s t m r n = Refuses (λ id why. HasBrokenBlock h rows m.blocks m.lacks n.lacks at deepest s t id why) r
+RefusesPart h rows at s t m r n = RefusesBlock (λ id why. HasBrokenBlock h rows m.blocks m.lacks n.lacks at deepest s t id why) r

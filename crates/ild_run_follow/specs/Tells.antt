@@ -58,15 +58,15 @@ abbrev pub part_nodes : (List ℕ → List ℕ) → List Row → Tell → Option
 part_nodes h rows tell o = cond (is_loaded tell) (option_map_or (λ q. length (nodes h rows q.0 q.1)) o 0) 0
 
 -- a value that is held at a view, where the store tells
-pub record IsAt (h : List ℕ → List ℕ) (view : View) (m : Moment) (t : Data) (v : Value) : Type 0 where
+pub record ViewIsHeld (h : List ℕ → List ℕ) (view : View) (m : Moment) (t : Data) (v : Value) : Type 0 where
   pub held : List (List ℕ)
   pub told : m.blocks ≡ Some held
   pub stands : BodyStands (table_of view) (body_of view) t
   pub value : IsValueAt h held view t v
 
 pub record TellsFrom (h : List ℕ → List ℕ) (view : View) (path : List (List ℕ)) (tell : Tell) (m : Moment) (result : Result Tree ReadFault) (n : Moment) : Type 0 where
-  pub answer : (t : Data) (v : Value) → IsAt h view m t v → TellAnswer (told h (table_of view) tell (at (table_of view) (slot_of view, v) path)) m result n
-  pub gets : (t : Data) (v : Value) → IsAt h view m t v
+  pub answer : (t : Data) (v : Value) → ViewIsHeld h view m t v → TellAnswer (told h (table_of view) tell (at (table_of view) (slot_of view, v) path)) m result n
+  pub gets : (t : Data) (v : Value) → ViewIsHeld h view m t v
       → n.gets ≤ m.gets + (met (table_of view) (counts h (table_of view)) (slot_of view, v) path + part_nodes h (table_of view) tell (at (table_of view) (slot_of view, v) path))
   pub only : OnlyReads m n
   pub failed : FailsOnly m result n
@@ -76,9 +76,9 @@ TellsHere h view tell m result n = TellsFrom h view [] tell m result n
 
 -- of the root of a HAMT
 pub record TellsIn (h : List ℕ → List ℕ) (view : View) (path : List (List ℕ)) (tell : Tell) (m : Moment) (result : Result Tree ReadFault) (n : Moment) : Type 0 where
-  pub answer : (t : Data) (v : Value) → IsAt h view m t v → is_root (table_of view) (slot_of view, v) ≡ true
+  pub answer : (t : Data) (v : Value) → ViewIsHeld h view m t v → is_root (table_of view) (slot_of view, v) ≡ true
       → TellAnswer (told h (table_of view) tell (at (table_of view) (slot_of view, v) path)) m result n
-  pub gets : (t : Data) (v : Value) → IsAt h view m t v → is_root (table_of view) (slot_of view, v) ≡ true
+  pub gets : (t : Data) (v : Value) → ViewIsHeld h view m t v → is_root (table_of view) (slot_of view, v) ≡ true
       → n.gets ≤ m.gets + (met (table_of view) (counts h (table_of view)) (slot_of view, v) path + part_nodes h (table_of view) tell (at (table_of view) (slot_of view, v) path))
   pub only : OnlyReads m n
   pub failed : FailsOnly m result n
@@ -93,8 +93,8 @@ LoadAnswer v m (Err F.Store) n = Rose m.faults n.faults
 LoadAnswer v m (Err F.Memory) n = Unit {0}
 
 pub record LoadsPart (h : List ℕ → List ℕ) (view : View) (m : Moment) (result : Result Val ReadFault) (n : Moment) : Type 0 where
-  pub answer : (t : Data) (v : Value) → IsAt h view m t v → LoadAnswer v m result n
-  pub gets : (t : Data) (v : Value) → IsAt h view m t v → n.gets ≤ m.gets + length (nodes h (table_of view) (slot_of view) v)
+  pub answer : (t : Data) (v : Value) → ViewIsHeld h view m t v → LoadAnswer v m result n
+  pub gets : (t : Data) (v : Value) → ViewIsHeld h view m t v → n.gets ≤ m.gets + length (nodes h (table_of view) (slot_of view) v)
   pub only : OnlyReads m n
   pub failed : FailsOnly m result n
 

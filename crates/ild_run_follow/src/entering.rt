@@ -1,6 +1,6 @@
 //! A HAMT entered at a key.
 ghost use Rattle.std.specs.Prelude.{List};
-ghost use Rattle.ild_cbor.specs.Nodes.{Stands};
+ghost use Rattle.ild_cbor.specs.Nodes.{HasData};
 ghost use Rattle.ild_data.specs.Data.{Data};
 ghost use Rattle.ild_data.specs.Trie.{TrieSlot};
 ghost use Rattle.ild_schema.specs.Slots.{form_of};
@@ -50,8 +50,8 @@ pub(crate) fn entry_view<'b>(
     block: &[u8],
 ) -> Result<View<'b>, ReadFault>
     requires { ∥ ((t : Data) × IsView hamt.now (root_of t)) ∥₁ }
-    ensures checks { (d : Data) → Stands node.entry d → ChecksEntry (table_of hamt.now) (form_of (table_of hamt.now) (slot_of hamt.now)) node.entry d result }
-    ensures refused { (d : Data) → Stands node.entry d → RefusesEntry (table_of hamt.now) (form_of (table_of hamt.now) (slot_of hamt.now)) block.now d result }
+    ensures checks { (d : Data) → HasData node.entry d → ChecksEntry (table_of hamt.now) (form_of (table_of hamt.now) (slot_of hamt.now)) node.entry d result }
+    ensures refused { (d : Data) → HasData node.entry d → RefusesEntry (table_of hamt.now) (form_of (table_of hamt.now) (slot_of hamt.now)) block.now d result }
 {
     let acc = hamt.schema();
     // They do no work: their clauses say what acceptance says of the table, and that what is refused has no front.

@@ -9,7 +9,7 @@ use Rattle.ild_script.specs.declared.reply.Reply.{Reply}
 use Rattle.ild_script_session.specs.Session.{idle, resting}
 use Rattle.ild_script_session.specs.Step.{Replies}
 use Rattle.ild_view.specs.declared.view.View.{View}
-use Rattle.ild_run_follow.specs.Tells.{IsAt}
+use Rattle.ild_run_follow.specs.Tells.{ViewIsHeld}
 use Rattle.ild_run_follow.specs.declared.kind.Tell.{Tell}
 use Rattle.ild_run_reads.specs.Replies.{IsAbout, RepliesAs, asked}
 
@@ -17,5 +17,5 @@ use Rattle.ild_run_reads.specs.Replies.{IsAbout, RepliesAs, asked}
 abbrev pub ReadsAreReplies : Type 0
 ReadsAreReplies =
     (h : List ℕ → List ℕ) (w : Setting) (view : View) (path : List (List ℕ)) (tell : Tell) (m n : Moment) (reply : Reply) (t : Data) (v : Value)
-    → IsAbout h w view → IsAt h view m t v → RepliesAs h view path tell m reply n
+    → IsAbout h w view → ViewIsHeld h view m t v → RepliesAs h view path tell m reply n
     → Replies (typed_lines w) m (resting v) (due w (to_tell (asked tell) path) (idle v)) (Some reply) n (resting v)

@@ -16,7 +16,7 @@ use Rattle.ild_script.specs.declared.reply.Reply.TheVariants as R
 use Rattle.ild_script_session.specs.Step.{IsExcused}
 use Rattle.ild_view.specs.View.{slot_of, table_of}
 use Rattle.ild_view.specs.declared.view.View.{View}
-use Rattle.ild_run_follow.specs.Tells.{IsAt}
+use Rattle.ild_run_follow.specs.Tells.{ViewIsHeld}
 use Rattle.ild_run_follow.specs.declared.fault.ReadFault.{ReadFault}
 use Rattle.ild_run_follow.specs.declared.fault.ReadFault.TheVariants as F
 use Rattle.ild_run_follow.specs.declared.kind.Tell.{Tell}
@@ -45,7 +45,7 @@ pub record IsAbout (h : List ℕ → List ℕ) (w : Setting) (view : View) : Typ
 -- Where the store tells what it holds, and holds the value at the view. The root's block is not asked for. Of every store: by gets alone, and that
 -- it failed is told only where it did.
 pub record RepliesAs (h : List ℕ → List ℕ) (view : View) (path : List (List ℕ)) (tell : Tell) (m : Moment) (reply : Reply) (n : Moment) : Type 0 where
-  pub answer : (w : Setting) (t : Data) (v : Value) → IsAbout h w view → IsAt h view m t v → (reply ≡ read_reply w (asked tell) path v) ⊎ IsExcused m [] (Some reply) n n
-  pub gets : (w : Setting) (t : Data) (v : Value) → IsAbout h w view → IsAt h view m t v → n.gets + 1 ≤ m.gets + tell_gets w.hash w.rows (asked tell) (in_slot w v) path
+  pub answer : (w : Setting) (t : Data) (v : Value) → IsAbout h w view → ViewIsHeld h view m t v → (reply ≡ read_reply w (asked tell) path v) ⊎ IsExcused m [] (Some reply) n n
+  pub gets : (w : Setting) (t : Data) (v : Value) → IsAbout h w view → ViewIsHeld h view m t v → n.gets + 1 ≤ m.gets + tell_gets w.hash w.rows (asked tell) (in_slot w v) path
   pub only : OnlyReads m n
   pub failed : reply ≡ R.No N.Store → Rose m.faults n.faults

@@ -12,7 +12,7 @@ use Rattle.ild_schema.specs.Value.{Value}
 use Rattle.ild_typed.specs.Hamt.{whole}
 use Rattle.ild_typed.specs.Represented.{represented}
 use Rattle.ild_typed.specs.Stands.{Stands, bare, blocks_of}
-use Rattle.ild_typed_places.specs.Carried.{AreHeld}
+use Rattle.ild_typed_places.specs.Carried.{AreUnderIds}
 use Rattle.ild_typed_places.specs.Laws.{PlacesAreHeld}
 use Rattle.ild_typed_places.specs.Places.{Place, down_from, each_place, value_places}
 use Rattle.ild_path_edits.specs.Judged.{Tests}
@@ -43,7 +43,7 @@ holds_told m held told bs all = subst (λ (o : Option (List (List ℕ))). IfTold
 told_holds : (m : Moment) (held : List (List ℕ)) → m.blocks ≡ Some held → (bs : List (List ℕ)) → Holds m bs → AllByRecursion (λ b. block_at held (id_of b) ≡ Some b) bs
 told_holds m held told bs all = subst (λ (o : Option (List (List ℕ))). IfTold o (λ x. AllByRecursion (λ b. block_at x (id_of b) ≡ Some b) bs)) told all
 
-carried_told : (m : Moment) (held : List (List ℕ)) → m.blocks ≡ Some held → (qs : List Place) → AllByRecursion (λ q. AreHeld (block_at held) (down_from q)) qs → AreCarried m [] (map (λ q. (q.0, down_from q)) qs)
+carried_told : (m : Moment) (held : List (List ℕ)) → m.blocks ≡ Some held → (qs : List Place) → AllByRecursion (λ q. AreUnderIds (block_at held) (down_from q)) qs → AreCarried m [] (map (λ q. (q.0, down_from q)) qs)
 carried_told m held told [] all = tt
 carried_told m held told (q ∷ qs) all = (inr (holds_told m held told (down_from q) all.0), carried_told m held told qs all.1)
 

@@ -17,7 +17,7 @@ use Rattle.ild_script_meaning.specs.Ask.{Ask}
 use Rattle.ild_script_meaning.specs.Lines.{Setting, due, places_in, typed_lines}
 use Rattle.ild_view_doc.specs.Docs.{table_in, type_in, block_in}
 use Rattle.ild_view_doc.specs.declared.doc.Doc.{Doc}
-use Rattle.ild_run_standing.specs.Standing.{IsAt, IsHeldAt, setting_of}
+use Rattle.ild_run_standing.specs.Standing.{DocIsAt, IsHeldAt, setting_of}
 
 -- each place of the next value was there before, with the same blocks from there on down, or the id of its block is given
 abbrev pub PassesOn : Setting → List (List ℕ) → Value → Value → Type 0
@@ -26,7 +26,7 @@ PassesOn w given v next = AllByRecursion (λ p. Contains given (id_of p.0) ⊎ C
 -- The document stands at the next value then, and the reply is what the ask is due on the value before.
 pub record LeadsOn (h : List ℕ → List ℕ) (w : Setting) (new : Doc) (a : Ask) (m : Moment) (v : Value) (reply : Option Reply) (n : Moment) : Type 0 where
   pub next : Value
-  pub at : IsAt h new n next
+  pub at : DocIsAt h new n next
   pub replies : Replies (typed_lines w) m (resting v) (due w a (idle v)) reply n (resting next)
   pub passed : BothTold m.given n.given (λ was now. PassesOn w now v next)
 

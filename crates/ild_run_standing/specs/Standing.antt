@@ -14,7 +14,7 @@ use Rattle.ild_view_doc.specs.Docs.{table_in, type_in, block_in}
 use Rattle.ild_view_doc.specs.declared.doc.Doc.{Doc}
 
 -- The block is the root block of the value. That the store holds what is beneath it is said by `Carries`, so this stays where the store changes.
-pub record IsAt (h : List ℕ → List ℕ) (d : Doc) (m : Moment) (v : Value) : Type 0 where
+pub record DocIsAt (h : List ℕ → List ℕ) (d : Doc) (m : Moment) (v : Value) : Type 0 where
   pub told : m.blocks ≢ None
   pub tree : Data
   pub storable : Storable bare h (table_in d) (type_in d) v tree
@@ -26,7 +26,7 @@ setting_of h d tests = record { frame = bare; hash = h; rows = table_in d; tests
 
 -- the store holds the value at which the document stands
 pub record IsHeldAt (h : List ℕ → List ℕ) (d : Doc) (tests : Tests) (m : Moment) (v : Value) : Type 0 where
-  pub at : IsAt h d m v
+  pub at : DocIsAt h d m v
   pub carries : Carries (typed_lines (setting_of h d tests)) m (resting v)
 
 -- ---- inside a batch and outside
@@ -63,7 +63,7 @@ pub record IsInBatch (h : List ℕ → List ℕ) (d b : Doc) (own : List (List �
   pub value : Value
   pub kept : Value
   pub owed : ℕ
-  pub at : IsAt h d m value
+  pub at : DocIsAt h d m value
   pub begin : IsBegin h d b kept
   pub most : length own ≤ owed
   pub is : s ≡ batching value kept owed own

@@ -13,7 +13,7 @@ use Rattle.ild_schema.specs.declared.def.TypeDef.{TypeDef}
 use Rattle.ild_schema.specs.declared.def.TypeDef.TheVariants as D
 use Rattle.ild_schema.specs.declared.by_text.PartIndex.{PartIndex}
 use Rattle.ild_schema.specs.declared.row.Row.{Row}
-use Rattle.ild_schema.specs.Marks.{text_of, field_text, member_text}
+use Rattle.ild_schema.specs.Marks.{mark_text, field_text, member_text}
 use Rattle.ild_schema.specs.Indexed.{FindsParts, HasParts, HasPut, InKeyOrder, IsSeat, text_at, under_texts}
 use Rattle.ild_schema.specs.Parts.{is_text, part_named, part_names, part_spelled, part_texts, IsPartOf}
 use Rattle.ild_schema.specs.Rows.{def_at}
@@ -96,7 +96,7 @@ named_is q d = refl
 
 spelled_is : (q : List ℕ) (d : TypeDef) → position_from (is_text q) 0 (part_texts d) ≡ part_spelled q d
 spelled_is q (D.Struct s) = position_map (is_text q) (λ (f : Field). Some (field_text f)) 0 s.fields
-spelled_is q (D.Union u) = position_map (is_text q) (λ (m : Member). text_of m.mark) 0 u.members
+spelled_is q (D.Union u) = position_map (is_text q) (λ (m : Member). mark_text m.mark) 0 u.members
 spelled_is q (D.Enum e) = position_map (is_text q) (λ (m : EnumMember). Some (member_text m)) 0 e.members
 spelled_is q d = refl
 
@@ -161,7 +161,7 @@ named_within name d = tt
 
 spelled_within : (text : List ℕ) (d : TypeDef) → IfSome (part_spelled text d) (λ n. n < parts_of d)
 spelled_within text (D.Struct s) = from_zero _ (length s.fields) (position_within (λ f. bytes_eq text (field_text f)) 0 s.fields)
-spelled_within text (D.Union u) = from_zero _ (length u.members) (position_within (λ m. is_text text (text_of m.mark)) 0 u.members)
+spelled_within text (D.Union u) = from_zero _ (length u.members) (position_within (λ m. is_text text (mark_text m.mark)) 0 u.members)
 spelled_within text (D.Enum e) = from_zero _ (length e.members) (position_within (λ m. bytes_eq text (member_text m)) 0 e.members)
 spelled_within text d = tt
 

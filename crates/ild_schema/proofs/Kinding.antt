@@ -22,7 +22,7 @@ use Rattle.ild_schema.specs.declared.kinds.Kinds.{Kinds}
 use Rattle.ild_schema.specs.DataKinds as asked
 use Rattle.ild_schema.specs.DataKinds.{same_kind, is_marked, slot_has, kind_in, unit_kind, map_kind, struct_kind, enum_kind, union_has, KindsAreTold}
 use Rattle.ild_schema.specs.Kinds.{no_kinds, all_but_null, with_kind, without_kind, has_kind, has_none, has_only, only, with_mark, with_declared, declared_kinds, struct_kinds, map_kinds, union_kinds, enum_kinds, unit_kinds, def_kinds, kinds_in, meant}
-use Rattle.ild_schema.specs.Marks.{kind_of}
+use Rattle.ild_schema.specs.Marks.{mark_kind}
 
 only_has : (k w : KindWord) → has_kind w (only k) ≡ same_kind k w
 only_has W.Null W.Null = refl
@@ -68,20 +68,20 @@ or_regroup : (a b c : Bool) → (a || b) || c ≡ a || (b || c)
 or_regroup true b c = refl
 or_regroup false b c = refl
 
-mark_has : (w : KindWord) (mark : Mark) (ks : Kinds) → has_kind w (with_mark mark ks) ≡ has_kind w ks || is_marked w (kind_of mark)
+mark_has : (w : KindWord) (mark : Mark) (ks : Kinds) → has_kind w (with_mark mark ks) ≡ has_kind w ks || is_marked w (mark_kind mark)
 mark_has w K.Bare ks = or_nothing (has_kind w ks)
 mark_has w (K.Text t) ks = or_nothing (has_kind w ks)
 mark_has w (K.Kind k) ks = with_has k w ks ∙ or_swap (same_kind k w) (has_kind w ks)
 
-declared_has : (w : KindWord) (ks : Kinds) (ms : List Member) → has_kind w (with_declared ks ms) ≡ has_kind w ks || list_any (λ m. is_marked w (kind_of m.mark)) ms
+declared_has : (w : KindWord) (ks : Kinds) (ms : List Member) → has_kind w (with_declared ks ms) ≡ has_kind w ks || list_any (λ m. is_marked w (mark_kind m.mark)) ms
 declared_has w ks [] = or_nothing (has_kind w ks)
 declared_has w ks (m ∷ ms) =
-    declared_has w (with_mark m.mark ks) ms ∙ ap (λ b. b || list_any (λ n. is_marked w (kind_of n.mark)) ms) (mark_has w m.mark ks)
-    ∙ or_regroup (has_kind w ks) (is_marked w (kind_of m.mark)) (list_any (λ n. is_marked w (kind_of n.mark)) ms)
+    declared_has w (with_mark m.mark ks) ms ∙ ap (λ b. b || list_any (λ n. is_marked w (mark_kind n.mark)) ms) (mark_has w m.mark ks)
+    ∙ or_regroup (has_kind w ks) (is_marked w (mark_kind m.mark)) (list_any (λ n. is_marked w (mark_kind n.mark)) ms)
 
 -- the kinds that are declared behind members
-pub members_have : (w : KindWord) (ms : List Member) → has_kind w (declared_kinds ms) ≡ list_any (λ m. is_marked w (kind_of m.mark)) ms
-members_have w ms = declared_has w no_kinds ms ∙ ap (λ b. b || list_any (λ m. is_marked w (kind_of m.mark)) ms) (none_has w)
+pub members_have : (w : KindWord) (ms : List Member) → has_kind w (declared_kinds ms) ≡ list_any (λ m. is_marked w (mark_kind m.mark)) ms
+members_have w ms = declared_has w no_kinds ms ∙ ap (λ b. b || list_any (λ m. is_marked w (mark_kind m.mark)) ms) (none_has w)
 
 unit_has : (form : UnitForm) (w : KindWord) → has_kind w (unit_kinds form) ≡ same_kind (unit_kind form) w
 unit_has N.Null w = only_has W.Null w

@@ -32,7 +32,7 @@ use Rattle.ild_schema.specs.Hex.{bytes_of_hex}
 use Rattle.ild_schema.specs.Kinds.{has_only, has_text_form, kinds_of, meant}
 use Rattle.ild_schema.specs.Legible.{AcceptedAreLegible}
 use Rattle.ild_schema.specs.Made.{HasOnly, IsTextSlot, MadeStruct, MadeMap, IsInlined, MadeMember, MadeEnum, MadeType}
-use Rattle.ild_schema.specs.Marks.{text_of, kind_of, field_text, member_text, member_integer}
+use Rattle.ild_schema.specs.Marks.{mark_text, mark_kind, field_text, member_text, member_integer}
 use Rattle.ild_schema.specs.Places.{first_place, first_beside, place_if}
 use Rattle.ild_schema.specs.Prefixes.{begins, prefix_fails}
 use Rattle.ild_schema.specs.Rules.{is_null_twice, is_kind_wrong, is_not_bytes, union_kind_fault, is_no_text, is_text_struct, is_text_map, is_text_union, is_optional_wrong, is_of, is_implicit_wrong, is_map_struct, is_map_form, is_inline, is_field_wrong, is_bare_join, is_member_wrong, is_value_wrong}
@@ -102,8 +102,8 @@ map_delims at (M.Hamt shape) p = tt
 -- ---- unions
 
 module _ (rows : List Row) (form : UnionForm) (ms : List Member) (h : first_beside (is_member_again rows form) (λ m. m.at) [] ms ≡ None) (s : first_place (is_member_wrong form) (λ m. m.at) ms ≡ None)
-    (told : (m : Member) → discriminant_of form m ≡ text_of m.mark) where
-  texts_apart : (i j : ℕ) (m n : Member) (t : List ℕ) → i < j → slice_get ms i ≡ Some m → slice_get ms j ≡ Some n → text_of m.mark ≡ Some t → text_of n.mark ≡ Some t → ⊥
+    (told : (m : Member) → discriminant_of form m ≡ mark_text m.mark) where
+  texts_apart : (i j : ℕ) (m n : Member) (t : List ℕ) → i < j → slice_get ms i ≡ Some m → slice_get ms j ≡ Some n → mark_text m.mark ≡ Some t → mark_text n.mark ≡ Some t → ⊥
   texts_apart i j m n t lt e f one other =
       never (are_same (discriminant_of form n) (discriminant_of form m)) (same_told (discriminant_of form n) (discriminant_of form m) t (told n ∙ other) (told m ∙ one))
       (right (bytes_eq n.name m.name) (are_same (discriminant_of form n) (discriminant_of form m)) (members_beside rows form ms h s i j m n lt e f))
@@ -228,21 +228,21 @@ module _ (rows : List Row) (ms : List Member) where
   made_member : (form : UnionForm) → first_beside (is_member_again rows form) (λ m. m.at) [] ms ≡ None → first_place (is_member_wrong form) (λ m. m.at) ms ≡ None → union_kind_fault rows form ms ≡ None
       → first_place (λ m. is_text_union form && not (has_text_form rows m.ty.0)) (λ m. m.at) ms ≡ None → first_place (λ m. is_inline form && not (is_map_struct (meant rows m.ty.0))) (λ m. m.at) ms ≡ None
       → (i : ℕ) (m : Member) → slice_get ms i ≡ Some m → MadeMember rows form m
-  made_member U.Keyed h s k t n i m e = some_of (text_of m.mark) (all_pass (is_member_wrong U.Keyed) (λ m. m.at) ms s i m e)
+  made_member U.Keyed h s k t n i m e = some_of (mark_text m.mark) (all_pass (is_member_wrong U.Keyed) (λ m. m.at) ms s i m e)
   made_member U.Kinded h s k t n i m e =
-      let kind = some_of (kind_of m.mark) (all_pass (is_member_wrong U.Kinded) (λ m. m.at) ms s i m e) in
+      let kind = some_of (mark_kind m.mark) (all_pass (is_member_wrong U.Kinded) (λ m. m.at) ms s i m e) in
       (kind.0, kind.1, only_kind rows (plainly m.ty) kind.0 (unless (has_only kind.0 (kinds_of rows m.ty.0)) (left (not (has_only kind.0 (kinds_of rows m.ty.0))) _ (member_kind rows ms k i m kind.0 e kind.1))))
   made_member U.StringPrefix h s k t n i m e = (
-    some_of (text_of m.mark) (all_pass (is_member_wrong U.StringPrefix) (λ m. m.at) ms s i m e),
+    some_of (mark_text m.mark) (all_pass (is_member_wrong U.StringPrefix) (λ m. m.at) ms s i m e),
     only_kind rows (plainly m.ty) W.Text (unless (has_text_form rows m.ty.0) (all_pass (λ m. not (has_text_form rows m.ty.0)) (λ m. m.at) ms t i m e)),
   )
   made_member U.BytesPrefix h s k t n i m e =
-      let bytes = some_of (option_and_then bytes_of_hex (text_of m.mark)) (all_pass (is_member_wrong U.BytesPrefix) (λ m. m.at) ms s i m e) in
-      let there = some_behind bytes_of_hex (text_of m.mark) (all_pass (is_member_wrong U.BytesPrefix) (λ m. m.at) ms s i m e) in
+      let bytes = some_of (option_and_then bytes_of_hex (mark_text m.mark)) (all_pass (is_member_wrong U.BytesPrefix) (λ m. m.at) ms s i m e) in
+      let there = some_behind bytes_of_hex (mark_text m.mark) (all_pass (is_member_wrong U.BytesPrefix) (λ m. m.at) ms s i m e) in
       (bytes.0, bytes.1, only_kind rows (plainly m.ty) W.Bytes (unless (has_only W.Bytes (kinds_of rows m.ty.0)) (past _ (not (has_only W.Bytes (kinds_of rows m.ty.0))) (all_pass (is_not_bytes rows) (λ m. m.at) ms k i m e) there)))
-  made_member (U.Envelope key content) h s k t n i m e = some_of (text_of m.mark) (all_pass (is_member_wrong (U.Envelope key content)) (λ m. m.at) ms s i m e)
+  made_member (U.Envelope key content) h s k t n i m e = some_of (mark_text m.mark) (all_pass (is_member_wrong (U.Envelope key content)) (λ m. m.at) ms s i m e)
   made_member (U.Inline key) h s k t n i m e = (
-    some_of (text_of m.mark) (all_pass (is_member_wrong (U.Inline key)) (λ m. m.at) ms s i m e),
+    some_of (mark_text m.mark) (all_pass (is_member_wrong (U.Inline key)) (λ m. m.at) ms s i m e),
     inlined rows key m (meant rows m.ty.0) refl (unless (is_map_struct (meant rows m.ty.0)) (all_pass (λ m. not (is_map_struct (meant rows m.ty.0))) (λ m. m.at) ms n i m e)) (key_free rows (U.Inline key) ms h s i m e),
   )
 

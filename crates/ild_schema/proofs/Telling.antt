@@ -20,7 +20,7 @@ use Rattle.ild_schema.specs.DataKinds as asked
 use Rattle.ild_schema.specs.DataKinds.{same_kind}
 use Rattle.ild_schema.specs.Hex.{bytes_of_hex}
 use Rattle.ild_schema.specs.Kinds.{has_kind, has_only, declared_kinds, kinds_of}
-use Rattle.ild_schema.specs.Marks.{text_of, kind_of, is_marked, is_valued, field_text}
+use Rattle.ild_schema.specs.Marks.{mark_text, mark_kind, is_marked, is_valued, field_text}
 use Rattle.ild_schema.specs.Places.{first_place, first_beside}
 use Rattle.ild_schema.specs.Prefixes.{begins, touch, prefix_of, is_unclear, prefix_fails}
 use Rattle.ild_schema.specs.Delimiters.{is_empty}
@@ -81,12 +81,12 @@ values_beside form ms h s i j m n lt e k =
 -- ---- members of unions
 
 pub marked : (form : UnionForm) (m : Member) → is_member_wrong form m ≡ false → is_marked form m ≡ true
-marked U.Keyed m h = some_there (text_of m.mark) h
-marked U.Kinded m h = some_there (kind_of m.mark) h
-marked U.StringPrefix m h = some_there (text_of m.mark) h
-marked U.BytesPrefix m h = some_behind bytes_of_hex (text_of m.mark) h
-marked (U.Envelope key content) m h = some_there (text_of m.mark) h
-marked (U.Inline key) m h = some_there (text_of m.mark) h
+marked U.Keyed m h = some_there (mark_text m.mark) h
+marked U.Kinded m h = some_there (mark_kind m.mark) h
+marked U.StringPrefix m h = some_there (mark_text m.mark) h
+marked U.BytesPrefix m h = some_behind bytes_of_hex (mark_text m.mark) h
+marked (U.Envelope key content) m h = some_there (mark_text m.mark) h
+marked (U.Inline key) m h = some_there (mark_text m.mark) h
 
 module _ (rows : List Row) (form : UnionForm) (ms : List Member) (h : first_beside (is_member_again rows form) (λ m. m.at) [] ms ≡ None) (s : first_place (is_member_wrong form) (λ m. m.at) ms ≡ None) where
   is_fine : (l : ℕ) (o : Member) → slice_get ms l ≡ Some o → is_marked form o ≡ true
@@ -124,15 +124,15 @@ same_swap k l = refl
 marked_at : (o : Option KindWord) (k l : KindWord) → o ≡ Some k → asked.is_marked l o ≡ false → same_kind k l ≡ false
 marked_at o k l e h = ap (asked.is_marked l) (sym e) ∙ h
 
-pub member_kind : (rows : List Row) (ms : List Member) → first_beside (is_kind_wrong rows) (λ m. m.at) [] ms ≡ None → (j : ℕ) (n : Member) (l : KindWord) → slice_get ms j ≡ Some n → kind_of n.mark ≡ Some l
+pub member_kind : (rows : List Row) (ms : List Member) → first_beside (is_kind_wrong rows) (λ m. m.at) [] ms ≡ None → (j : ℕ) (n : Member) (l : KindWord) → slice_get ms j ≡ Some n → mark_kind n.mark ≡ Some l
     → not (has_only l (kinds_of rows n.ty.0)) || has_kind l (declared_kinds (take j ms)) ≡ false
-member_kind rows ms h j n l k e = at_some (λ kind. not (has_only kind (kinds_of rows n.ty.0)) || has_kind kind (declared_kinds (take j ms))) (kind_of n.mark) l e (each_passes (is_kind_wrong rows) (λ m. m.at) [] ms h j n k)
+member_kind rows ms h j n l k e = at_some (λ kind. not (has_only kind (kinds_of rows n.ty.0)) || has_kind kind (declared_kinds (take j ms))) (mark_kind n.mark) l e (each_passes (is_kind_wrong rows) (λ m. m.at) [] ms h j n k)
 
 pub kinds_beside : (rows : List Row) (ms : List Member) → first_beside (is_kind_wrong rows) (λ m. m.at) [] ms ≡ None → (i j : ℕ) (m n : Member) (k l : KindWord) → i < j → slice_get ms i ≡ Some m → slice_get ms j ≡ Some n
-    → kind_of m.mark ≡ Some k → kind_of n.mark ≡ Some l → same_kind k l ≡ false
+    → mark_kind m.mark ≡ Some k → mark_kind n.mark ≡ Some l → same_kind k l ≡ false
 kinds_beside rows ms h i j m n k l lt e f one other =
-    marked_at (kind_of m.mark) k l one
-    (none_before (λ o. asked.is_marked l (kind_of o.mark)) ms i j m lt e
+    marked_at (mark_kind m.mark) k l one
+    (none_before (λ o. asked.is_marked l (mark_kind o.mark)) ms i j m lt e
     (sym (members_have l (take j ms)) ∙ right (not (has_only l (kinds_of rows n.ty.0))) (has_kind l (declared_kinds (take j ms))) (member_kind rows ms h j n l f other)))
 
 -- ---- prefixes

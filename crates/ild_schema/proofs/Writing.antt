@@ -16,7 +16,7 @@ use Rattle.ild_schema.specs.declared.def.Field.{Field}
 use Rattle.ild_schema.specs.declared.def.Member.{Member}
 use Rattle.ild_schema.specs.declared.def.EnumMember.{EnumMember}
 use Rattle.ild_schema.specs.declared.row.Row.{Row}
-use Rattle.ild_schema.specs.Marks.{text_of, field_text, member_text}
+use Rattle.ild_schema.specs.Marks.{mark_text, field_text, member_text}
 use Rattle.ild_schema.specs.Rows.{def_at}
 use Rattle.ild_schema.specs.Spelled.{SpelledDelims, SpelledStruct, SpelledKeys, SpelledUnion, SpelledEnum, SpelledScalar, HasTexts}
 use Rattle.ild_schema.specs.inside.Written.{FieldTexts, MemberTexts, EnumMemberTexts, TypeTexts, RowTexts}
@@ -45,7 +45,7 @@ fields_implicit fs all = recursion_from_All (λ f. IfSome f.implicit SpelledScal
 
 pub members_spelled : (form : UnionForm) (ms : List Member) → SpelledKeys form → All MemberTexts ms → SpelledUnion form ms
 members_spelled form ms keys all = record {
-  marks = recursion_from_All (λ m. IfSome (text_of m.mark) IsUtf8) ms (All-weaker MemberTexts (λ m. IfSome (text_of m.mark) IsUtf8) (λ m h. h.mark) ms all);
+  marks = recursion_from_All (λ m. IfSome (mark_text m.mark) IsUtf8) ms (All-weaker MemberTexts (λ m. IfSome (mark_text m.mark) IsUtf8) (λ m h. h.mark) ms all);
   keys = keys;
 }
 

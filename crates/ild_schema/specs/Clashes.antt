@@ -13,7 +13,7 @@ use Rattle.ild_schema.specs.declared.def.Field.{Field}
 use Rattle.ild_schema.specs.declared.def.Member.{Member}
 use Rattle.ild_schema.specs.declared.row.Row.{Row}
 use Rattle.ild_schema.specs.Kinds.{meant}
-use Rattle.ild_schema.specs.Marks.{text_of, is_marked, is_valued, field_text, member_text, member_integer}
+use Rattle.ild_schema.specs.Marks.{mark_text, is_marked, is_valued, field_text, member_text, member_integer}
 use Rattle.ild_schema.specs.Places.{first_beside}
 
 -- a field beside those before it: its name, or its name in a block
@@ -36,9 +36,9 @@ is_value_again form before m = is_valued form m && list_any (λ o. is_valued for
 
 -- the text that tells a union's member in a block, where it is one that stands for itself
 abbrev pub discriminant_of : UnionForm → Member → Option (List ℕ)
-discriminant_of U.Keyed m = text_of m.mark
-discriminant_of (U.Envelope discriminant content) m = text_of m.mark
-discriminant_of (U.Inline discriminant) m = text_of m.mark
+discriminant_of U.Keyed m = mark_text m.mark
+discriminant_of (U.Envelope discriminant content) m = mark_text m.mark
+discriminant_of (U.Inline discriminant) m = mark_text m.mark
 discriminant_of form m = None
 
 abbrev pub are_same : Option (List ℕ) → Option (List ℕ) → Bool

@@ -21,7 +21,7 @@ use Rattle.ild_schema.specs.declared.row.Row.{Row}
 use Rattle.ild_schema.specs.Table.{def_at}
 use Rattle.ild_schema.specs.DataKinds.{same_kind, slot_has}
 use Rattle.ild_schema.specs.Hex.{bytes_of_hex}
-use Rattle.ild_schema.specs.Marks.{text_of, kind_of, field_text, member_text, member_integer}
+use Rattle.ild_schema.specs.Marks.{mark_text, mark_kind, field_text, member_text, member_integer}
 use Rattle.ild_schema.specs.Prefixes.{begins}
 
 abbrev pub IsGiven : List ℕ → Type 0
@@ -56,15 +56,15 @@ ClearMap (MF.Hamt p) = Unit {0}
 
 -- two members that a block could not tell apart
 abbrev pub SameText : Member → Member → Type 0
-SameText m n = (s : List ℕ) × (text_of m.mark ≡ Some s) × (text_of n.mark ≡ Some s)
+SameText m n = (s : List ℕ) × (mark_text m.mark ≡ Some s) × (mark_text n.mark ≡ Some s)
 
 abbrev pub Clash : UnionForm → Member → Member → Type 0
 Clash UF.Keyed m n = SameText m n
-Clash UF.Kinded m n = (k l : KindWord) × (kind_of m.mark ≡ Some k) × (kind_of n.mark ≡ Some l) × (same_kind k l ≡ true)
+Clash UF.Kinded m n = (k l : KindWord) × (mark_kind m.mark ≡ Some k) × (mark_kind n.mark ≡ Some l) × (same_kind k l ≡ true)
 Clash UF.StringPrefix m n =
-    (p q : List ℕ) × (text_of m.mark ≡ Some p) × (text_of n.mark ≡ Some q) × (begins p q ≡ true)
+    (p q : List ℕ) × (mark_text m.mark ≡ Some p) × (mark_text n.mark ≡ Some q) × (begins p q ≡ true)
 Clash UF.BytesPrefix m n =
-    (p q : List ℕ) × (option_and_then bytes_of_hex (text_of m.mark) ≡ Some p) × (option_and_then bytes_of_hex (text_of n.mark) ≡ Some q) × (begins p q ≡ true)
+    (p q : List ℕ) × (option_and_then bytes_of_hex (mark_text m.mark) ≡ Some p) × (option_and_then bytes_of_hex (mark_text n.mark) ≡ Some q) × (begins p q ≡ true)
 Clash (UF.Envelope key content) m n = SameText m n
 Clash (UF.Inline key) m n = SameText m n
 

@@ -20,7 +20,7 @@ use Rattle.ild_schema.specs.declared.def.KindWord.{KindWord}
 use Rattle.ild_schema.specs.declared.def.KindWord.TheVariants as K
 use Rattle.ild_schema.specs.declared.row.Row.{Row}
 use Rattle.ild_schema.specs.Kinds as kinds
-use Rattle.ild_schema.specs.Marks.{kind_of}
+use Rattle.ild_schema.specs.Marks.{mark_kind}
 use Rattle.ild_schema.specs.Slots.{form_of}
 
 abbrev pub kind_number : KindWord → ℕ
@@ -66,7 +66,7 @@ is_marked k (Some l) = same_kind l k
 -- of a kinded union the declared kinds of its members
 abbrev pub union_has : UnionForm → List Member → KindWord → Bool
 union_has UF.Keyed ms k = same_kind K.Map k
-union_has UF.Kinded ms k = list_any (λ m. is_marked k (kind_of m.mark)) ms
+union_has UF.Kinded ms k = list_any (λ m. is_marked k (mark_kind m.mark)) ms
 union_has UF.StringPrefix ms k = same_kind K.Text k
 union_has UF.BytesPrefix ms k = same_kind K.Bytes k
 union_has (UF.Envelope key content) ms k = same_kind K.Map k

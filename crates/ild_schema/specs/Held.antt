@@ -9,7 +9,7 @@ use Rattle.ild_schema.specs.Indexed.{HasParts, InKeyOrder}
 use Rattle.ild_schema.specs.Names.{declared_names, open_names}
 use Rattle.ild_schema.specs.Table.{IsTable}
 
-pub record IsHeld (rows : List Row) (names : List (List ℕ)) (numbers : List ℕ) (ends : List (Option TypeNo)) (parts : List PartIndex) : Type 0 where
+pub record TableIsKept (rows : List Row) (names : List (List ℕ)) (numbers : List ℕ) (ends : List (Option TypeNo)) (parts : List PartIndex) : Type 0 where
   pub table : IsTable rows
   pub listed : names ≡ declared_names rows
   pub named : InKeyOrder (open_names rows) numbers

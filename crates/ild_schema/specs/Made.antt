@@ -22,7 +22,7 @@ use Rattle.ild_schema.specs.declared.row.Row.{Row}
 use Rattle.ild_schema.specs.Table.{def_at}
 use Rattle.ild_schema.specs.DataKinds.{slot_has}
 use Rattle.ild_schema.specs.Hex.{bytes_of_hex}
-use Rattle.ild_schema.specs.Marks.{text_of, kind_of, field_text, member_integer}
+use Rattle.ild_schema.specs.Marks.{mark_text, mark_kind, field_text, member_integer}
 use Rattle.ild_schema.specs.Slots.{form_of, plainly}
 
 -- of this kind alone
@@ -44,7 +44,7 @@ MadeMap rows (MF.StringPairs inner entry) value = IsTextSlot rows value
 MadeMap rows form value = Unit {0}
 
 abbrev pub HasText : Member → Type 0
-HasText m = (s : List ℕ) × (text_of m.mark ≡ Some s)
+HasText m = (s : List ℕ) × (mark_text m.mark ≡ Some s)
 
 -- a struct as a map, no field of which has the key as its name
 pub record IsInlined (rows : List Row) (key : List ℕ) (m : Member) : Type 0 where
@@ -55,10 +55,10 @@ pub record IsInlined (rows : List Row) (key : List ℕ) (m : Member) : Type 0 wh
 
 abbrev pub MadeMember : List Row → UnionForm → Member → Type 0
 MadeMember rows UF.Keyed m = HasText m
-MadeMember rows UF.Kinded m = (k : KindWord) × (kind_of m.mark ≡ Some k) × HasOnly rows (plainly m.ty) k
+MadeMember rows UF.Kinded m = (k : KindWord) × (mark_kind m.mark ≡ Some k) × HasOnly rows (plainly m.ty) k
 MadeMember rows UF.StringPrefix m = HasText m × HasOnly rows (plainly m.ty) K.Text
 MadeMember rows UF.BytesPrefix m =
-    (b : List ℕ) × (option_and_then bytes_of_hex (text_of m.mark) ≡ Some b) × HasOnly rows (plainly m.ty) K.Bytes
+    (b : List ℕ) × (option_and_then bytes_of_hex (mark_text m.mark) ≡ Some b) × HasOnly rows (plainly m.ty) K.Bytes
 MadeMember rows (UF.Envelope key content) m = HasText m
 MadeMember rows (UF.Inline key) m = HasText m × IsInlined rows key m
 

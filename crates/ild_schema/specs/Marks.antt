@@ -13,18 +13,18 @@ use Rattle.ild_schema.specs.declared.def.Mark.TheVariants as K
 use Rattle.ild_schema.specs.declared.def.KindWord.{KindWord}
 use Rattle.ild_schema.specs.Decimal.{decimal_of}
 
-abbrev pub text_of : Mark → Option (List ℕ)
-text_of (K.Text t) = Some t
-text_of mark = None
+abbrev pub mark_text : Mark → Option (List ℕ)
+mark_text (K.Text t) = Some t
+mark_text mark = None
 
-abbrev pub kind_of : Mark → Option KindWord
-kind_of (K.Kind w) = Some w
-kind_of mark = None
+abbrev pub mark_kind : Mark → Option KindWord
+mark_kind (K.Kind w) = Some w
+mark_kind mark = None
 
 -- a union of kinds asks for a kind, every other one for a text
 abbrev pub is_marked : UnionForm → Member → Bool
-is_marked U.Kinded m = is_some (kind_of m.mark)
-is_marked form m = is_some (text_of m.mark)
+is_marked U.Kinded m = is_some (mark_kind m.mark)
+is_marked form m = is_some (mark_text m.mark)
 
 -- an enum of integers asks for a text
 abbrev pub is_valued : EnumForm → EnumMember → Bool

@@ -9,13 +9,13 @@ use Rattle.ild_schema.specs.declared.def.UnionForm.TheVariants as U
 use Rattle.ild_schema.specs.declared.def.Member.{Member}
 use Rattle.ild_schema.specs.Delimiters.{is_empty}
 use Rattle.ild_schema.specs.Hex.{bytes_of_hex}
-use Rattle.ild_schema.specs.Marks.{text_of}
+use Rattle.ild_schema.specs.Marks.{mark_text}
 use Rattle.ild_schema.specs.Places.{first_beside}
 
 -- the prefix of a member, if it has one
 abbrev pub prefix_of : UnionForm → Member → Option (List ℕ)
-prefix_of U.StringPrefix m = text_of m.mark
-prefix_of U.BytesPrefix m = option_and_then bytes_of_hex (text_of m.mark)
+prefix_of U.StringPrefix m = mark_text m.mark
+prefix_of U.BytesPrefix m = option_and_then bytes_of_hex (mark_text m.mark)
 prefix_of form m = None
 
 -- whether a text or bytes begin with others

@@ -22,7 +22,7 @@ use Rattle.ild_schema.specs.declared.number.Slot.{Slot}
 use Rattle.ild_schema.specs.declared.row.Row.{Row}
 use Rattle.ild_schema.specs.Hex.{bytes_of_hex}
 use Rattle.ild_schema.specs.Kinds.{kinds_of, meant, has_kind, has_only, has_text_form, declared_kinds}
-use Rattle.ild_schema.specs.Marks.{text_of, kind_of, member_integer}
+use Rattle.ild_schema.specs.Marks.{mark_text, mark_kind, member_integer}
 use Rattle.ild_schema.specs.Places.{first_place, first_beside, place_if}
 
 -- ---- what may be null has no other value that stands as null
@@ -40,11 +40,11 @@ null_fault rows def = None
 
 -- a member of a union of kinds that has a kind, beside those before it
 abbrev pub is_kind_wrong : List Row → List Member → Member → Bool
-is_kind_wrong rows before m = option_map_or (λ kind. not (has_only kind (kinds_of rows m.ty.0)) || has_kind kind (declared_kinds before)) (kind_of m.mark) false
+is_kind_wrong rows before m = option_map_or (λ kind. not (has_only kind (kinds_of rows m.ty.0)) || has_kind kind (declared_kinds before)) (mark_kind m.mark) false
 
 -- a member behind a prefix of bytes
 abbrev pub is_not_bytes : List Row → Member → Bool
-is_not_bytes rows m = is_some (text_of m.mark) && not (has_only W.Bytes (kinds_of rows m.ty.0))
+is_not_bytes rows m = is_some (mark_text m.mark) && not (has_only W.Bytes (kinds_of rows m.ty.0))
 
 abbrev pub union_kind_fault : List Row → UnionForm → List Member → Option ℕ
 union_kind_fault rows U.Kinded ms = first_beside (is_kind_wrong rows) (λ m. m.at) [] ms
@@ -147,9 +147,9 @@ is_bare_join (S.StringJoin join) [] = true
 is_bare_join form fs = false
 
 abbrev pub is_member_wrong : UnionForm → Member → Bool
-is_member_wrong U.Kinded m = is_none (kind_of m.mark)
-is_member_wrong U.BytesPrefix m = is_none (option_and_then bytes_of_hex (text_of m.mark))
-is_member_wrong form m = is_none (text_of m.mark)
+is_member_wrong U.Kinded m = is_none (mark_kind m.mark)
+is_member_wrong U.BytesPrefix m = is_none (option_and_then bytes_of_hex (mark_text m.mark))
+is_member_wrong form m = is_none (mark_text m.mark)
 
 abbrev pub is_value_wrong : EnumForm → EnumMember → Bool
 is_value_wrong E.Text m = false

@@ -16,7 +16,7 @@ use Rattle.ild_schema.specs.declared.def.Scalar.TheVariants as C
 use Rattle.ild_schema.specs.declared.def.Member.{Member}
 use Rattle.ild_schema.specs.declared.def.EnumMember.{EnumMember}
 use Rattle.ild_schema.specs.declared.row.Row.{Row}
-use Rattle.ild_schema.specs.Marks.{text_of, field_text, member_text}
+use Rattle.ild_schema.specs.Marks.{mark_text, field_text, member_text}
 use Rattle.ild_schema.specs.Rows.{def_at}
 
 -- ---- what stands in blocks: delimiters, keys, and the texts of fields and members
@@ -40,7 +40,7 @@ SpelledKeys (U.Inline key) = IsUtf8 key
 SpelledKeys form = Unit {0}
 
 pub record SpelledUnion (form : UnionForm) (ms : List Member) : Type 0 where
-  pub marks : AllByRecursion (λ m. IfSome (text_of m.mark) IsUtf8) ms
+  pub marks : AllByRecursion (λ m. IfSome (mark_text m.mark) IsUtf8) ms
   pub keys : SpelledKeys form
 
 abbrev pub SpelledEnum : List EnumMember → Type 0

@@ -2,7 +2,7 @@
 ghost use Rattle.std.specs.Prelude.{◌≡◌, [], length, None, Some, option_map, option_and_then, slice_get};
 ghost use Rattle.std.specs.Option.{unwrap_or};
 ghost use Rattle.ild_schema.specs.Indexed.{labels, text_at};
-ghost use Rattle.ild_schema.specs.Marks.{field_text, member_text, text_of};
+ghost use Rattle.ild_schema.specs.Marks.{field_text, member_text, mark_text};
 ghost use Rattle.ild_schema.specs.Parts.{part_names, part_texts};
 ghost use Rattle.ild_schema.specs.declared.label.Label.{Label};
 
@@ -39,7 +39,7 @@ pub fn text_of_member(member: &EnumMember) -> &str
 
 // The text behind a union's member, where one is there.
 fn text_of_mark(mark: &Mark) -> Option<&str>
-    ensures { option_map (λ s. s.now) result ≡ text_of mark.now }
+    ensures { option_map (λ s. s.now) result ≡ mark_text mark.now }
 {
     match mark {
         Mark::Text(text) => Some(text.as_str()),
@@ -89,7 +89,7 @@ fn field_spelled(fields: &Fields, part: usize) -> Option<&str>
 
 // The text of the union's member with a number.
 fn member_spelled(members: &Members, part: usize) -> Option<&str>
-    ensures { option_map (λ s. s.now) result ≡ option_and_then (λ m. text_of m.mark) (slice_get members.now part) }
+    ensures { option_map (λ s. s.now) result ≡ option_and_then (λ m. mark_text m.mark) (slice_get members.now part) }
 {
     match members.get(part) {
         Some(member) => text_of_mark(&member.mark),

@@ -30,13 +30,13 @@ pub struct Schema {
 impl Model for Schema {
     ghost use Rattle.std.specs.Prelude.{List};
     ghost use Rattle.ild_schema.specs.declared.row.Row.{Row};
-    ghost use Rattle.ild_schema.specs.Held.{IsHeld};
+    ghost use Rattle.ild_schema.specs.Held.{TableIsKept};
 
     ghost Value = { List Row };
 
     ghost view = { λ a. a.rows.items };
 
-    ghost invariant = { λ a. IsHeld a.rows.items a.names.items a.numbers.items a.ends.items a.parts.items };
+    ghost invariant = { λ a. TableIsKept a.rows.items a.names.items a.numbers.items a.ends.items a.parts.items };
 }
 
 impl Schema {

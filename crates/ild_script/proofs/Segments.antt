@@ -5,7 +5,7 @@ use Rattle.std.proofs.lemmas.List.Splits.{slice_split_first, slice_split_none}
 use Rattle.std.proofs.lemmas.List.Sums.{prefix_len_passes}
 use Rattle.ild_script.specs.declared.error.LineErr.{LineErr}
 use Rattle.ild_script.specs.declared.error.LineErr.TheVariants as E
-use Rattle.ild_script.specs.Reads.{Finds}
+use Rattle.ild_script.specs.Reads.{ReadsSo}
 use Rattle.ild_script.specs.Escape.{unescaped}
 use Rattle.ild_script.specs.Path.{is_slash, all_some, segments_of}
 
@@ -52,6 +52,6 @@ so_far_last text path rest r so is read =
     so ∙ ap (option_map (λ ys. path ++ ys)) (ap (λ ps. all_some (map unescaped ps)) (one_part is_slash rest is) ∙ ap (λ o. all_some (o ∷ [])) read)
 
 -- where a segment is refused, so is the path
-pub refused : {A : Type 0} (e : LineErr) (r : Option A) (s : Option (List (List ℕ))) → Finds {A = A} {B = A} (λ t. t) (Err e) r → (r ≡ None → s ≡ None) → Finds {A = List (List ℕ)} {B = List (List ℕ)} (λ p. p) (Err e) s
+pub refused : {A : Type 0} (e : LineErr) (r : Option A) (s : Option (List (List ℕ))) → ReadsSo {A = A} {B = A} (λ t. t) (Err e) r → (r ≡ None → s ≡ None) → ReadsSo {A = List (List ℕ)} {B = List (List ℕ)} (λ p. p) (Err e) s
 refused E.Line r s found stop = stop found
 refused E.Memory r s found stop = tt

@@ -7,10 +7,10 @@ use Rattle.ild_script.specs.declared.word.Word.{Word}
 use Rattle.ild_script.specs.declared.line.Line.{Line}
 
 -- what was read, seen so, is there, and what is outside the grammar isn't; want of memory is free
-abbrev pub Finds : {A B : Type 0} → (A → B) → Result A LineErr → Option B → Type 0
-Finds seen (Ok x) found = found ≡ Some (seen x)
-Finds seen (Err E.Line) found = found ≡ None
-Finds seen (Err E.Memory) found = Unit {0}
+abbrev pub ReadsSo : {A B : Type 0} → (A → B) → Result A LineErr → Option B → Type 0
+ReadsSo seen (Ok x) found = found ≡ Some (seen x)
+ReadsSo seen (Err E.Line) found = found ≡ None
+ReadsSo seen (Err E.Memory) found = Unit {0}
 
 -- the last n bytes of l
 abbrev pub last_bytes : ℕ → List ℕ → List ℕ

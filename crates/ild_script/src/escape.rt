@@ -1,7 +1,7 @@
 //! The escapes of a path's segments.
 ghost use Rattle.std.specs.Prelude.{◌≡◌, option_map};
 ghost use Rattle.ild_script.specs.Escape.{unescaped, behind_tilde};
-ghost use Rattle.ild_script.specs.Reads.{Finds};
+ghost use Rattle.ild_script.specs.Reads.{ReadsSo};
 
 use crate::LineErr;
 use ild_data::Txt;
@@ -28,7 +28,7 @@ fn behind_tilde(rest: &str) -> Option<(char, &str)>
 
 /// The text that a segment writes.
 pub fn unescape(alloc: Global, segment: &str) -> Result<Txt, LineErr>
-    ensures { Finds (λ t. t) result (unescaped segment.now) }
+    ensures { ReadsSo (λ t. t) result (unescaped segment.now) }
 {
     let mut text = String::new(alloc);
     let mut rest = segment;

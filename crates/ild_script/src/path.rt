@@ -2,7 +2,7 @@
 ghost use Rattle.std.specs.Prelude.{◌≡◌};
 ghost use Rattle.std.specs.List.{list_all};
 ghost use Rattle.ild_script.specs.Path.{is_bare, path_of, segments_of};
-ghost use Rattle.ild_script.specs.Reads.{Finds};
+ghost use Rattle.ild_script.specs.Reads.{ReadsSo};
 
 use crate::LineErr;
 use crate::escape::unescape;
@@ -18,7 +18,7 @@ fn is_bare(text: &str) -> bool
 
 /// The segments between slashes.
 fn segments_of(alloc: Global, text: &str) -> Result<Path, LineErr>
-    ensures { Finds (λ p. p) result (segments_of text.now) }
+    ensures { ReadsSo (λ p. p) result (segments_of text.now) }
 {
     let mut path = Path::new(alloc);
     let mut rest = text;
@@ -32,7 +32,7 @@ fn segments_of(alloc: Global, text: &str) -> Result<Path, LineErr>
 
 /// The path that a text writes.
 pub fn path_of(alloc: Global, text: &str) -> Result<Path, LineErr>
-    ensures { Finds (λ p. p) result (path_of text.now) }
+    ensures { ReadsSo (λ p. p) result (path_of text.now) }
 {
     if text == "." {
         return Ok(Path::new(alloc));

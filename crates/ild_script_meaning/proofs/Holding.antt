@@ -26,7 +26,7 @@ use Rattle.ild_path_edits.proofs.Judges.{edited_are_storable}
 use Rattle.ild_script_session.specs.Session.{State}
 use Rattle.ild_script_meaning.specs.Ask.{Ask, asked, asked_by, nothing, to_tell, to_edit, to_tell_root, to_begin, to_commit, to_abort, unknown}
 use Rattle.ild_script_meaning.specs.Lines.{Setting, due, read_json, edit_due, changed, root_due, begin_due, commit_due, abort_due}
-use Rattle.ild_script_meaning.specs.LinesLaws.{CanBeHeld, IsHeld, BringsTree, LinesKeepHeld}
+use Rattle.ild_script_meaning.specs.LinesLaws.{CanBeHeld, StateCanBeHeld, BringsTree, LinesKeepHeld}
 
 -- what an edit brings is read as a tree, and its path is of texts
 abbrev IsFair : Ask → Type 0
@@ -53,28 +53,28 @@ module _ (w : Setting) (schema : IsSchema w.rows) (tests : AreTests w.rows w.tes
   held_typed : (v : Value) → CanBeHeld w v → Typed w.rows (plainly w.ty) v
   held_typed v held = (w.frame.room, held.1.fits, (tree_sound w.hash w.rows (plainly w.ty) v held.0 held.1.tree).0)
 
-  edit_held : (e : Edit (List ℕ)) (s : State Value) → IsFair (to_edit e) → IsHeld w s → (r : Result Value No) → changed w s.value e ≡ r → IsHeld w (edit_due w s e r).next
+  edit_held : (e : Edit (List ℕ)) (s : State Value) → IsFair (to_edit e) → StateCanBeHeld w s → (r : Result Value No) → changed w s.value e ≡ r → StateCanBeHeld w (edit_due w s e r).next
   edit_held e s fair held (Ok c) is =
       (edited_are_storable w.frame w.hash w.rows w.tests schema tests read_json w.ty s.value e c fair.0 fair.1 (held_typed s.value held.0) is, held.1)
   edit_held e s fair held (Err refusal) is = held
 
-  root_held : (s : State Value) (o : Option Value) → IsHeld w s → IsHeld w (root_due w s o).next
+  root_held : (s : State Value) (o : Option Value) → StateCanBeHeld w s → StateCanBeHeld w (root_due w s o).next
   root_held s None held = held
   root_held s (Some v) held = held
 
-  begin_held : (s : State Value) (o : Option Value) → IsHeld w s → IsHeld w (begin_due s o).next
+  begin_held : (s : State Value) (o : Option Value) → StateCanBeHeld w s → StateCanBeHeld w (begin_due s o).next
   begin_held s None held = (held.0, held.0)
   begin_held s (Some v) held = held
 
-  commit_held : (s : State Value) (o : Option Value) → IsHeld w s → IsHeld w (commit_due w s o).next
+  commit_held : (s : State Value) (o : Option Value) → StateCanBeHeld w s → StateCanBeHeld w (commit_due w s o).next
   commit_held s None held = held
   commit_held s (Some v) held = (held.0, tt)
 
-  abort_held : (s : State Value) (o : Option Value) → s.begun ≡ o → IfSome o (CanBeHeld w) → IsHeld w s → IsHeld w (abort_due s o).next
+  abort_held : (s : State Value) (o : Option Value) → s.begun ≡ o → IfSome o (CanBeHeld w) → StateCanBeHeld w s → StateCanBeHeld w (abort_due s o).next
   abort_held s None is begun held = held
   abort_held s (Some v) is begun held = (begun, tt)
 
-  due_held : (a : Ask) (s : State Value) → IsFair a → IsHeld w s → IsHeld w (due w a s).next
+  due_held : (a : Ask) (s : State Value) → IsFair a → StateCanBeHeld w s → StateCanBeHeld w (due w a s).next
   due_held nothing s fair held = held
   due_held (to_tell t path) s fair held = held
   due_held (to_edit e) s fair held = edit_held e s fair held (changed w s.value e) refl

@@ -22,7 +22,7 @@ use Rattle.ild_typed.specs.EachLayer.{some_pair}
 use Rattle.ild_typed.specs.Fits.{FitsPast, Fits}
 use Rattle.ild_typed.specs.Hamt.{whole}
 use Rattle.ild_typed.specs.Layer as L
-use Rattle.ild_typed.specs.Layers.{EntriesFit, Shows}
+use Rattle.ild_typed.specs.Layers.{EntriesFit, RepresentsSome}
 use Rattle.ild_typed.specs.Strings.{cons_both}
 use Rattle.ild_typed.specs.Represented.{represented, represented_pairs, layered}
 use Rattle.ild_typed.specs.Stands.{bare, blocks_of}
@@ -98,7 +98,7 @@ module _ (name : List ℕ) (at key_at value_at : ℕ) where
   no_layer test (e ∷ v) = no_layer test v
 
   each_fits : (v : P.Value) → AllByRecursion (λ e. IsUtf8 e.0 × IsInt e.1) v
-      → AllByRecursion (λ p. IsUtf8 p.0 × Shows (FitsPast R 95 0) R (plainly (number 7)) (T.text p.0) × FitsPast R 95 0 int_slot p.1) (map int_entry v)
+      → AllByRecursion (λ p. IsUtf8 p.0 × RepresentsSome (FitsPast R 95 0) R (plainly (number 7)) (T.text p.0) × FitsPast R 95 0 int_slot p.1) (map int_entry v)
   unfolding FitsPast
   each_fits [] all = tt
   each_fits (e ∷ v) all = (((all.0).0, (V.text e.0, (omega arith, (all.0).0), refl), (omega arith, (all.0).1)), each_fits v all.1)

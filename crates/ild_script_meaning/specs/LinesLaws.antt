@@ -34,8 +34,8 @@ abbrev pub CanBeHeld : Setting → Value → Type 0
 CanBeHeld w v = (d : Data) × Storable w.frame w.hash w.rows w.ty v d
 
 -- the value of a state, and that at the begin of its batch
-abbrev pub IsHeld : Setting → State Value → Type 0
-IsHeld w s = CanBeHeld w s.value × IfSome s.begun (CanBeHeld w)
+abbrev pub StateCanBeHeld : Setting → State Value → Type 0
+StateCanBeHeld w s = CanBeHeld w s.value × IfSome s.begun (CanBeHeld w)
 
 -- what the json of a command means is a tree; the call that reads json says so of each text for which memory is not wanting
 abbrev pub BringsTree : Reading → Type 0
@@ -45,4 +45,4 @@ BringsTree outside = Unit {0}
 
 -- each line makes states that a store can hold of such states
 abbrev pub LinesKeepHeld : Type 0
-LinesKeepHeld = (w : Setting) → IsSchema w.rows → AreTests w.rows w.tests → (line : List ℕ) (s : State Value) → BringsTree (reads line) → IsHeld w s → IsHeld w (line_due w s line).next
+LinesKeepHeld = (w : Setting) → IsSchema w.rows → AreTests w.rows w.tests → (line : List ℕ) (s : State Value) → BringsTree (reads line) → StateCanBeHeld w s → StateCanBeHeld w (line_due w s line).next

@@ -4,14 +4,14 @@ use Rattle.std.specs.Prelude.{Result}
 use Rattle.std.proofs.lemmas.Option.{same_Some}
 use Rattle.std.proofs.lemmas.List.{drop-drop}
 use Rattle.ild_cbor.specs.declared.node.Node.{Node}
-use Rattle.ild_cbor.specs.Nodes.{Stands, block_of, start_of}
+use Rattle.ild_cbor.specs.Nodes.{HasData, block_of, start_of}
 use Rattle.ild_cbor.specs.Span.{Span}
 use Rattle.ild_splice_changes.specs.TreeChange.{TreeStep, TreeChange, changed, change_here}
 use Rattle.ild_splice_changes.proofs.Spans.{changes_are_spliced}
 use Rattle.ild_data.specs.Data.{Data}
 use Rattle.ild_data.specs.Spell.{spell}
 use Rattle.ild_splice.specs.declared.error.SpliceErr.{SpliceErr}
-use Rattle.ild_splice.specs.Made.{Makes}
+use Rattle.ild_splice.specs.Made.{MakesBytes}
 use Rattle.ild_splice.specs.Splices.{IsAt, Splices}
 
 -- what stands behind the first so many, by how many there are of these
@@ -37,7 +37,7 @@ spliced n t d q c front inner behind at front_is behind_is inner_is =
     let two : drop (a + m) (spell t) ≡ behind = last ∙ (λ i. drop (from i + long) (sym at.whole i)) ∙ sym behind_is in
     s.after ∙ (λ i. one i ++ (sym inner_is i ++ two i))
 
-pub splices : (n : Node) (c : TreeChange) (front inner behind : List ℕ) (r : Result (List ℕ) SpliceErr) → Makes (front ++ (inner ++ behind)) r → front ≡ take (start_of n) (block_of n)
-    → ((d : Data) → Stands n d → behind ≡ drop (start_of n + length (spell d)) (block_of n)) → ((d : Data) → Stands n d → inner ≡ spell (change_here c d)) → Splices n c r
+pub splices : (n : Node) (c : TreeChange) (front inner behind : List ℕ) (r : Result (List ℕ) SpliceErr) → MakesBytes (front ++ (inner ++ behind)) r → front ≡ take (start_of n) (block_of n)
+    → ((d : Data) → HasData n d → behind ≡ drop (start_of n + length (spell d)) (block_of n)) → ((d : Data) → HasData n d → inner ≡ spell (change_here c d)) → Splices n c r
 splices n c front inner behind r made front_is behind_is inner_is =
-    record { makes = λ t d q at. subst (λ (xs : List ℕ). Makes xs r) (sym (spliced n t d q c front inner behind at front_is (behind_is d at.stands) (inner_is d at.stands))) made }
+    record { makes = λ t d q at. subst (λ (xs : List ℕ). MakesBytes xs r) (sym (spliced n t d q c front inner behind at front_is (behind_is d at.stands) (inner_is d at.stands))) made }

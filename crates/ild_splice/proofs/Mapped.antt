@@ -4,7 +4,7 @@ use Rattle.std.specs.Prelude.{min, is_some}
 use Rattle.std.proofs.lemmas.List.{take_at, drop_at}
 use Rattle.ild_cbor.specs.declared.kind.Kind.TheVariants as K
 use Rattle.ild_cbor.specs.declared.node.Node.{Node}
-use Rattle.ild_cbor.specs.Nodes.{Stands}
+use Rattle.ild_cbor.specs.Nodes.{HasData}
 use Rattle.ild_cbor.specs.Scalar.{kind_of, count_of}
 use Rattle.ild_cbor.specs.Span.{entry_of}
 use Rattle.ild_splice_changes.specs.Laws.{spell_pairs}
@@ -31,7 +31,7 @@ spelled_map : (ms : List (List ℕ × Data)) (n : ℕ) (x : List ℕ) → n ≡ 
 spelled_map ms n x count is = (λ i. head 5 (count i) ++ is i) ∙ ap (λ k. head 5 k ++ spell_pairs ms) (sym (length-members ms))
 
 -- a map in a block has fewer entries than any count may say
-few : (n : Node) (ms : Members) → Stands n (map ms) → length (members_list ms) + 1 < 2 ^ 64
+few : (n : Node) (ms : Members) → HasData n (map ms) → length (members_list ms) + 1 < 2 ^ 64
 few n ms stands =
     let within = stands.within in
     let sized = within.sized in
@@ -60,7 +60,7 @@ around_key ms count size from to spelling entries before after key counted sized
 
 -- ---- the whole map
 
-comes_in : (n : Node) (ms : Members) (count : ℕ) (before after key new : List ℕ) (e : Data) → Stands n (map ms) → entry_of (map ms) key ≡ None → count ≡ min (length (members_list ms) + 1) (2 ^ 64 - 1)
+comes_in : (n : Node) (ms : Members) (count : ℕ) (before after key new : List ℕ) (e : Data) → HasData n (map ms) → entry_of (map ms) key ≡ None → count ≡ min (length (members_list ms) + 1) (2 ^ 64 - 1)
     → AreAroundKey before after key (members_list ms) → new ≡ spell e → head 5 count ++ (before ++ (spell_text key ++ (new ++ after))) ≡ spell (change_here (insert_entry key e) (map ms))
 comes_in n ms count before after key new e stands absent counted a is =
     let short = few n ms stands in
@@ -74,7 +74,7 @@ comes_in n ms count before after key new e stands absent counted a is =
     (λ i. spell_text key ++ (is i ++ a.after_is i)) ∙ sym (append_assoc (spell_text key) (spell e) (spell_pairs a.behind)) in
     spelled_map (put key e (members_list ms)) count _ more ((λ i. a.before_is i ++ entry i) ∙ sym (spell_pairs-append a.front ((key, e) ∷ a.behind)) ∙ ap spell_pairs (sym (a.cuts.puts e)))
 
-goes_in : (n : Node) (ms : Members) (count : ℕ) (before after key : List ℕ) → Stands n (map ms) → is_some (entry_of (map ms) key) ≡ true → count ≡ length (members_list ms) - 1
+goes_in : (n : Node) (ms : Members) (count : ℕ) (before after key : List ℕ) → HasData n (map ms) → is_some (entry_of (map ms) key) ≡ true → count ≡ length (members_list ms) - 1
     → AreAroundKey before after key (members_list ms) → head 5 count ++ (before ++ after) ≡ spell (change_here (remove_entry key) (map ms))
 goes_in n ms count before after key stands there counted a =
     let one = one_less key (members_list ms) there in
@@ -82,18 +82,18 @@ goes_in n ms count before after key stands there counted a =
     spelled_map (without key (members_list ms)) count _ less ((λ i. a.before_is i ++ a.after_is i) ∙ sym (spell_pairs-append a.front a.behind) ∙ ap spell_pairs (sym a.cuts.goes))
 
 -- with a count of the entries, as one was told
-pub comes : (n : Node) (d e : Data) (told count : ℕ) (before after key new : List ℕ) → Stands n d → kind_of d ≡ K.Map → entry_of d key ≡ None → ((k : ℕ) → count_of d ≡ Some k → told ≡ k)
-    → count ≡ min (told + 1) (2 ^ 64 - 1) → ((ms : Members) → Stands n (map ms) → AreAroundKey before after key (members_list ms)) → new ≡ spell e
+pub comes : (n : Node) (d e : Data) (told count : ℕ) (before after key new : List ℕ) → HasData n d → kind_of d ≡ K.Map → entry_of d key ≡ None → ((k : ℕ) → count_of d ≡ Some k → told ≡ k)
+    → count ≡ min (told + 1) (2 ^ 64 - 1) → ((ms : Members) → HasData n (map ms) → AreAroundKey before after key (members_list ms)) → new ≡ spell e
     → head 5 count ++ (before ++ (spell_text key ++ (new ++ after))) ≡ spell (change_here (insert_entry key e) d)
 comes n d e told count before after key new stands kind absent tells counted around is =
     let m = map_if d kind in
-    let P : Data → Type 0 = λ u. Stands n u → entry_of u key ≡ None → ((k : ℕ) → count_of u ≡ Some k → told ≡ k)
+    let P : Data → Type 0 = λ u. HasData n u → entry_of u key ≡ None → ((k : ℕ) → count_of u ≡ Some k → told ≡ k)
     → head 5 count ++ (before ++ (spell_text key ++ (new ++ after))) ≡ spell (change_here (insert_entry key e) u) in
     subst P (sym m.1) (λ s none t. comes_in n m.0 count before after key new e s none (counted ∙ ap (λ k. min (k + 1) (2 ^ 64 - 1)) (t _ refl)) (around m.0 s) is) stands absent tells
 
-pub goes : (n : Node) (d : Data) (told count : ℕ) (before after key : List ℕ) → Stands n d → kind_of d ≡ K.Map → is_some (entry_of d key) ≡ true → ((k : ℕ) → count_of d ≡ Some k → told ≡ k)
-    → count ≡ told - 1 → ((ms : Members) → Stands n (map ms) → AreAroundKey before after key (members_list ms)) → head 5 count ++ (before ++ after) ≡ spell (change_here (remove_entry key) d)
+pub goes : (n : Node) (d : Data) (told count : ℕ) (before after key : List ℕ) → HasData n d → kind_of d ≡ K.Map → is_some (entry_of d key) ≡ true → ((k : ℕ) → count_of d ≡ Some k → told ≡ k)
+    → count ≡ told - 1 → ((ms : Members) → HasData n (map ms) → AreAroundKey before after key (members_list ms)) → head 5 count ++ (before ++ after) ≡ spell (change_here (remove_entry key) d)
 goes n d told count before after key stands kind there tells counted around =
     let m = map_if d kind in
-    let P : Data → Type 0 = λ u. Stands n u → is_some (entry_of u key) ≡ true → ((k : ℕ) → count_of u ≡ Some k → told ≡ k) → head 5 count ++ (before ++ after) ≡ spell (change_here (remove_entry key) u) in
+    let P : Data → Type 0 = λ u. HasData n u → is_some (entry_of u key) ≡ true → ((k : ℕ) → count_of u ≡ Some k → told ≡ k) → head 5 count ++ (before ++ after) ≡ spell (change_here (remove_entry key) u) in
     subst P (sym m.1) (λ s some t. goes_in n m.0 count before after key s some (counted ∙ ap (λ k. k - 1) (t _ refl)) (around m.0 s)) stands there tells

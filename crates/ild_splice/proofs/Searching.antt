@@ -4,7 +4,7 @@ use Rattle.std.specs.Borrow.{Bor}
 use Rattle.std.specs.declared.cmp.Ordering.TheVariants.{Less, Equal, Greater}
 use Rattle.ild_cbor.specs.declared.node.Node.{Node}
 use Rattle.ild_cbor.specs.declared.pairs.Pairs.{Pairs}
-use Rattle.ild_cbor.specs.Nodes.{Stands}
+use Rattle.ild_cbor.specs.Nodes.{HasData}
 use Rattle.ild_cbor.specs.Steps.{HasEntries, EntryStep, EntriesGive, FindsEntries}
 use Rattle.ild_splice_changes.specs.Laws.{spell_pairs}
 use Rattle.ild_splice_changes.proofs.Maps.{below_absent}
@@ -30,7 +30,7 @@ pub record Passed (key : List ℕ) (ms : List (List ℕ × Data)) (passed : ℕ)
   pub rises : Rises (members_list left)
   pub short : length (spell_pairs ms) ≤ longest_block
 
-pub begins : (n : Node) (ms : Members) (key : List ℕ) (entries : Pairs) → Stands n (map ms) → FindsEntries n (Some ms) (Some entries) → Passed key (members_list ms) 0 entries
+pub begins : (n : Node) (ms : Members) (key : List ℕ) (entries : Pairs) → HasData n (map ms) → FindsEntries n (Some ms) (Some entries) → Passed key (members_list ms) 0 entries
 begins n ms key entries stands finds =
     let within = stands.within in
     let sized = within.sized in
@@ -55,7 +55,7 @@ pub record Found (key : List ℕ) (ms : List (List ℕ × Data)) (passed : ℕ) 
   pub of : Data
   pub left : Members
   pub has : HasEntries rest left
-  pub stands : Stands value of
+  pub stands : HasData value of
   pub whole : ms ≡ front ++ (name, of) ∷ members_list left
   pub passed_is : passed ≡ length (spell_pairs front)
   pub puts : (e : Data) → put key e ms ≡ front ++ put key e ((name, of) ∷ members_list left)
@@ -76,7 +76,7 @@ found key ms passed rest x t p gives = found_in key ms p.front p.left passed res
 
 -- what a call told that adds up the passed entries and one more
 abbrev pub Adds : ℕ → List ℕ → Node → ℕ → Type 0
-Adds passed name value next = (d : Data) → Stands value d → passed + length (spell_text name) + length (spell d) < 2 ^ 64 → next ≡ passed + length (spell_text name) + length (spell d)
+Adds passed name value next = (d : Data) → HasData value d → passed + length (spell_text name) + length (spell d) < 2 ^ 64 → next ≡ passed + length (spell_text name) + length (spell d)
 
 -- how much is passed with the next entry
 added : (key : List ℕ) (ms : List (List ℕ × Data)) (passed next : ℕ) (name : List ℕ) (value : Node) (rest : Pairs) (f : Found key ms passed name value rest) → Adds passed name value next

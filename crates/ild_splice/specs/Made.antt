@@ -29,7 +29,7 @@ abbrev pub bytes_of : Pieces → List ℕ
 bytes_of p = p.front.now ++ (inner_of p ++ p.behind.now)
 
 -- the block is these bytes, and they are refused exactly where they are more than a block may have; else only memory may be wanting
-abbrev pub Makes : List ℕ → Result (List ℕ) SpliceErr → Type 0
-Makes bytes (Ok b) = (b ≡ bytes) × (length bytes ≤ longest_block)
-Makes bytes (Err Size) = longest_block < length bytes
-Makes bytes (Err Memory) = length bytes ≤ longest_block
+abbrev pub MakesBytes : List ℕ → Result (List ℕ) SpliceErr → Type 0
+MakesBytes bytes (Ok b) = (b ≡ bytes) × (length bytes ≤ longest_block)
+MakesBytes bytes (Err Size) = longest_block < length bytes
+MakesBytes bytes (Err Memory) = length bytes ≤ longest_block

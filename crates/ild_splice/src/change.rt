@@ -3,7 +3,7 @@
 //! of that part is another, and what stands before and behind it is copied as it is. Where the new block would have more than 4,194,304 bytes, and only
 //! there, the answer is `SpliceErr::Size`. How deep the tree nests is for the caller to see to (`changes_stay_within`).
 ghost use Rattle.std.specs.Prelude.{◌≡◌, ◌≤◌, ◌<◌, ◌++◌, ℕ, true, is_some, Some, None};
-ghost use Rattle.ild_cbor.specs.Nodes.{Stands};
+ghost use Rattle.ild_cbor.specs.Nodes.{HasData};
 ghost use Rattle.ild_cbor.specs.Scalar.{kind_of, count_of};
 ghost use Rattle.ild_cbor.specs.Span.{entry_of};
 ghost use Rattle.ild_cbor.specs.declared.kind.Kind.TheVariants as K;
@@ -43,7 +43,7 @@ pub fn replace_with(alloc: Global, part: &Node<'_>, new: &[u8]) -> Result<Octets
 
 /// The same with another item, which is copied from its own block.
 pub fn replace(alloc: Global, part: &Node<'_>, new: &Node<'_>) -> Result<Octets, SpliceErr>
-    ensures { (e : Data) → Stands new.now e → Splices part.now (replace e) result }
+    ensures { (e : Data) → HasData new.now e → Splices part.now (replace e) result }
 {
     replace_with(alloc, part, new.spelling())
 }
@@ -56,9 +56,9 @@ fn with_item(
     lead: Lead<'_>,
     new: &Node<'_>,
 ) -> Result<Octets, SpliceErr>
-    requires list { (d : Data) → Stands list.now d → kind_of d ≡ K.List }
-    requires place { (d : Data) (n : ℕ) → Stands list.now d → count_of d ≡ Some n → at ≤ n }
-    ensures { (e u : Data) → Stands new.now e → lead_bytes lead.entry ++ spell e ≡ spell u → Splices list.now (insert_item at u) result }
+    requires list { (d : Data) → HasData list.now d → kind_of d ≡ K.List }
+    requires place { (d : Data) (n : ℕ) → HasData list.now d → count_of d ≡ Some n → at ≤ n }
+    ensures { (e u : Data) → HasData new.now e → lead_bytes lead.entry ++ spell e ≡ spell u → Splices list.now (insert_item at u) result }
 {
     let (front, behind) = around(list);
     let (before, after) = list.items_around(at, 0);
@@ -84,9 +84,9 @@ pub fn insert_item(
     at: u64,
     new: &Node<'_>,
 ) -> Result<Octets, SpliceErr>
-    requires list { (d : Data) → Stands list.now d → kind_of d ≡ K.List }
-    requires place { (d : Data) (n : ℕ) → Stands list.now d → count_of d ≡ Some n → at ≤ n }
-    ensures { (e : Data) → Stands new.now e → Splices list.now (insert_item at e) result }
+    requires list { (d : Data) → HasData list.now d → kind_of d ≡ K.List }
+    requires place { (d : Data) (n : ℕ) → HasData list.now d → count_of d ≡ Some n → at ≤ n }
+    ensures { (e : Data) → HasData new.now e → Splices list.now (insert_item at e) result }
 {
     with_item(alloc, list, at, Lead::Nothing, new)
 }
@@ -100,9 +100,9 @@ pub fn insert_pair(
     key: &str,
     new: &Node<'_>,
 ) -> Result<Octets, SpliceErr>
-    requires list { (d : Data) → Stands list.now d → kind_of d ≡ K.List }
-    requires place { (d : Data) (n : ℕ) → Stands list.now d → count_of d ≡ Some n → at ≤ n }
-    ensures { (e : Data) → Stands new.now e → Splices list.now (insert_item at (pair_of key.now e)) result }
+    requires list { (d : Data) → HasData list.now d → kind_of d ≡ K.List }
+    requires place { (d : Data) (n : ℕ) → HasData list.now d → count_of d ≡ Some n → at ≤ n }
+    ensures { (e : Data) → HasData new.now e → Splices list.now (insert_item at (pair_of key.now e)) result }
 {
     with_item(alloc, list, at, Lead::Pair(key), new)
 }
@@ -115,9 +115,9 @@ pub fn insert_entry(
     key: &str,
     new: &Node<'_>,
 ) -> Result<Octets, SpliceErr>
-    requires map { (d : Data) → Stands map.now d → kind_of d ≡ K.Map }
-    requires absent { (d : Data) → Stands map.now d → entry_of d key.now ≡ None }
-    ensures { (e : Data) → Stands new.now e → Splices map.now (insert_entry key.now e) result }
+    requires map { (d : Data) → HasData map.now d → kind_of d ≡ K.Map }
+    requires absent { (d : Data) → HasData map.now d → entry_of d key.now ≡ None }
+    ensures { (e : Data) → HasData new.now e → Splices map.now (insert_entry key.now e) result }
 {
     let (front, behind) = around(map);
     let (before, after) = entries_around(map, key);
@@ -137,8 +137,8 @@ pub fn insert_entry(
 
 /// The block in which a list stands, without the item at this place of the list.
 pub fn remove_item(alloc: Global, list: &Node<'_>, at: u64) -> Result<Octets, SpliceErr>
-    requires list { (d : Data) → Stands list.now d → kind_of d ≡ K.List }
-    requires place { (d : Data) (n : ℕ) → Stands list.now d → count_of d ≡ Some n → at < n }
+    requires list { (d : Data) → HasData list.now d → kind_of d ≡ K.List }
+    requires place { (d : Data) (n : ℕ) → HasData list.now d → count_of d ≡ Some n → at < n }
     ensures { Splices list.now (remove_item at) result }
 {
     let (front, behind) = around(list);
@@ -159,8 +159,8 @@ pub fn remove_item(alloc: Global, list: &Node<'_>, at: u64) -> Result<Octets, Sp
 
 /// The block in which a map stands, without the entry at this key.
 pub fn remove_entry(alloc: Global, map: &Node<'_>, key: &str) -> Result<Octets, SpliceErr>
-    requires map { (d : Data) → Stands map.now d → kind_of d ≡ K.Map }
-    requires there { (d : Data) → Stands map.now d → is_some (entry_of d key.now) ≡ true }
+    requires map { (d : Data) → HasData map.now d → kind_of d ≡ K.Map }
+    requires there { (d : Data) → HasData map.now d → is_some (entry_of d key.now) ≡ true }
     ensures { Splices map.now (remove_entry key.now) result }
 {
     let (front, behind) = around(map);

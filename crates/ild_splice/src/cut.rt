@@ -1,6 +1,6 @@
 //! Cutting bytes in two, the block around an item, and how many parts the item has.
 ghost use Rattle.std.specs.Prelude.{◌≡◌, ◌+◌, ℕ, Some, length, take, drop};
-ghost use Rattle.ild_cbor.specs.Nodes.{Stands, block_of, start_of};
+ghost use Rattle.ild_cbor.specs.Nodes.{HasData, block_of, start_of};
 ghost use Rattle.ild_cbor.specs.Scalar.{count_of};
 ghost use Rattle.ild_data.specs.Data.{Data};
 ghost use Rattle.ild_data.specs.Spell.{spell};
@@ -19,7 +19,7 @@ pub(crate) fn cut(bytes: &[u8], at: usize) -> (&[u8], &[u8])
 /// What stands in the block in front of an item, and what stands behind it.
 pub(crate) fn around<'b>(node: &Node<'b>) -> (&'b [u8], &'b [u8])
     ensures front { result.0.now ≡ take (start_of node.now) (block_of node.now) }
-    ensures behind { (d : Data) → Stands node.now d → result.1.now ≡ drop (start_of node.now + length (spell d)) (block_of node.now) }
+    ensures behind { (d : Data) → HasData node.now d → result.1.now ≡ drop (start_of node.now + length (spell d)) (block_of node.now) }
 {
     let (start, size) = node.span();
     let (front, rest) = cut(node.block(), start);
@@ -28,7 +28,7 @@ pub(crate) fn around<'b>(node: &Node<'b>) -> (&'b [u8], &'b [u8])
 
 /// How many parts a list or a map has.
 pub(crate) fn part_count(node: &Node<'_>) -> u64
-    ensures { (d : Data) (n : ℕ) → Stands node.now d → count_of d ≡ Some n → result ≡ n }
+    ensures { (d : Data) (n : ℕ) → HasData node.now d → count_of d ≡ Some n → result ≡ n }
 {
     node.count().unwrap_or(0)
 }

@@ -1,6 +1,6 @@
 //! The entries of a map before and behind a key.
 ghost use Rattle.std.specs.Prelude.{◌≡◌, ◌≤◌, ◌+◌, ◌<◌, ◌^◌, length};
-ghost use Rattle.ild_cbor.specs.Nodes.{Stands};
+ghost use Rattle.ild_cbor.specs.Nodes.{HasData};
 ghost use Rattle.ild_data.specs.Data.{Data, Members, map, members_list};
 ghost use Rattle.ild_data.specs.Spell.{spell, spell_text};
 ghost use Rattle.ild_splice.specs.Around.{AreAroundKey, AreCutAtKey};
@@ -13,7 +13,7 @@ use std::cmp::Ordering;
 
 // How many bytes the entries are spelled in that were passed, and one more.
 fn passed_with(passed: usize, key: &str, value: &Node<'_>) -> usize
-    ensures { (d : Data) → Stands value.now d → passed + length (spell_text key.now) + length (spell d) < 2 ^ 64 → result ≡ passed + length (spell_text key.now) + length (spell d) }
+    ensures { (d : Data) → HasData value.now d → passed + length (spell_text key.now) + length (spell d) < 2 ^ 64 → result ≡ passed + length (spell_text key.now) + length (spell d) }
 {
     let text = head_size(key.len() as u64).saturating_add(key.len());
     passed.saturating_add(text).saturating_add(value.span().1)
@@ -21,7 +21,7 @@ fn passed_with(passed: usize, key: &str, value: &Node<'_>) -> usize
 
 // How many bytes of the entries stand before the place of a key, and how many with the entry at the key, where there is one.
 fn place_of(node: &Node<'_>, key: &str) -> (usize, usize)
-    ensures { (ms : Members) → Stands node.now (map ms) → AreCutAtKey result.0 result.1 key.now (members_list ms) }
+    ensures { (ms : Members) → HasData node.now (map ms) → AreCutAtKey result.0 result.1 key.now (members_list ms) }
 {
     let mut passed = 0;
     if let Some(entries) = node.entries() {
@@ -41,7 +41,7 @@ fn place_of(node: &Node<'_>, key: &str) -> (usize, usize)
 /// The entries of a map as they are spelled: those before the place of a key, and those behind it (DAG-CBOR, "Map Keys"). The entry at
 /// the key, where there is one, is in neither. Of an item that is no map nothing is said.
 pub fn entries_around<'b>(node: &Node<'b>, key: &str) -> (&'b [u8], &'b [u8])
-    ensures { (ms : Members) → Stands node.now (map ms) → AreAroundKey result.0.now result.1.now key.now (members_list ms) }
+    ensures { (ms : Members) → HasData node.now (map ms) → AreAroundKey result.0.now result.1.now key.now (members_list ms) }
 {
     let (from, to) = place_of(node, key);
     let entries = cut(node.spelling(), head_size(part_count(node))).1;

@@ -1,6 +1,6 @@
 //! Writing a changed block.
 ghost use Rattle.std.specs.Prelude.{◌≡◌, ◌++◌, IfOk, OnOk};
-ghost use Rattle.ild_splice.specs.Made.{Makes, bytes_of, head_bytes, lead_bytes};
+ghost use Rattle.ild_splice.specs.Made.{MakesBytes, bytes_of, head_bytes, lead_bytes};
 
 use crate::error::SpliceErr;
 use crate::piece::{Lead, NewHead, Pieces};
@@ -56,7 +56,7 @@ fn joined(alloc: Global, pieces: &Pieces<'_, '_, '_>, room: usize) -> Result<Oct
 
 /// The block of these pieces, where they are no longer than a block may be.
 pub(crate) fn made(alloc: Global, pieces: &Pieces<'_, '_, '_>) -> Result<Octets, SpliceErr>
-    ensures { Makes (bytes_of pieces.now) result }
+    ensures { MakesBytes (bytes_of pieces.now) result }
 {
     let size = size_of(pieces);
     if size > LONGEST_BLOCK as u128 {

@@ -7,7 +7,7 @@ use Rattle.ild_data.specs.Data.{Data}
 use Rattle.ild_data.specs.Key.{value_at}
 use Rattle.ild_data.proofs.Lists.{items_list-items_of}
 use Rattle.std.proofs.lemmas.Option.{same_Some}
-use Rattle.ild_cbor.specs.Nodes.{Stands, Finds}
+use Rattle.ild_cbor.specs.Nodes.{HasData, Finds}
 use Rattle.ild_cbor.specs.Span.{item_of, place_of}
 use Rattle.ild_cbor.specs.Steps.{HasItems}
 use Rattle.ild_cbor.specs.declared.items.Items.{Items}
@@ -41,9 +41,9 @@ use Rattle.ild_text.specs.declared.parts.PairParts.{PairParts}
 use Rattle.ild_layer_piece.specs.Answers.{Layered}
 use Rattle.ild_layer_piece.specs.Entries.{Found}
 use Rattle.ild_layer_piece.specs.Pieces.{StandsFor}
-use Rattle.ild_struct.specs.Parts.{ArePartsOf, IsFieldOf, IsPart, IsStruct}
+use Rattle.ild_struct.specs.Parts.{ArePartsOf, IsFieldOf, IsFieldPart, IsStruct}
 use Rattle.ild_struct.specs.inside.Reading.{IsLookedUp, shown}
-use Rattle.ild_struct.specs.Source.{Shows}
+use Rattle.ild_struct.specs.Source.{FormShows}
 use Rattle.ild_layer_fields.specs.Entries.{text_entries}
 use Rattle.ild_struct.specs.declared.part.Part.{Part}
 use Rattle.ild_struct.specs.declared.parts.StructParts.{StructParts}
@@ -73,7 +73,7 @@ pub record IsMap (rows : List Row) (form : StructForm) (p : Piece) (t : Data) : 
   pub form_is : form ≡ S.Map
   pub stands : StandsFor rows p t
 
-pub shown_map : (rows : List Row) (form : StructForm) (p : Piece) (t : Data) → Shows rows form (R.Map p) t → IsMap rows form p t
+pub shown_map : (rows : List Row) (form : StructForm) (p : Piece) (t : Data) → FormShows rows form (R.Map p) t → IsMap rows form p t
 shown_map rows S.Map p t h = record { form_is = refl; stands = h }
 shown_map rows S.Tuple p t h = absurd h
 shown_map rows S.ListPairs p t h = absurd h
@@ -84,9 +84,9 @@ shown_map rows (S.StringJoin delim) p t h = absurd h
 
 pub record IsTuple (form : StructForm) (n : Node) (t : Data) : Type 0 where
   pub form_is : form ≡ S.Tuple
-  pub stands : Stands n t
+  pub stands : HasData n t
 
-pub shown_tuple : (rows : List Row) (form : StructForm) (n : Node) (t : Data) → Shows rows form (R.Tuple n) t → IsTuple form n t
+pub shown_tuple : (rows : List Row) (form : StructForm) (n : Node) (t : Data) → FormShows rows form (R.Tuple n) t → IsTuple form n t
 shown_tuple rows S.Map n t h = absurd h
 shown_tuple rows S.Tuple n t h = record { form_is = refl; stands = h }
 shown_tuple rows S.ListPairs n t h = absurd h
@@ -101,7 +101,7 @@ pub record IsListPairs (form : StructForm) (s : Items) (t : Data) : Type 0 where
   pub list : t ≡ T.list items
   pub left : HasItems s items
 
-pub shown_listpairs : (rows : List Row) (form : StructForm) (s : Items) (t : Data) → Shows rows form (R.ListPairs s) t → IsListPairs form s t
+pub shown_listpairs : (rows : List Row) (form : StructForm) (s : Items) (t : Data) → FormShows rows form (R.ListPairs s) t → IsListPairs form s t
 shown_listpairs rows S.Map s t h = absurd h
 shown_listpairs rows S.Tuple s t h = absurd h
 shown_listpairs rows S.ListPairs s t h = record { form_is = refl; items = h.0; list = h.1; left = h.2 }
@@ -124,7 +124,7 @@ pub record IsTextPairs (form : StructForm) (split : PairParts) (t : Data) : Type
   pub form_is : form ≡ S.StringPairs inner entry
   pub shown_as : split_entries inner entry t ≡ Some (text_entries (pairs_in split))
 
-pub shown_textpairs : (rows : List Row) (form : StructForm) (split : PairParts) (t : Data) → Shows rows form (R.StringPairs split) t → IsTextPairs form split t
+pub shown_textpairs : (rows : List Row) (form : StructForm) (split : PairParts) (t : Data) → FormShows rows form (R.StringPairs split) t → IsTextPairs form split t
 shown_textpairs rows S.Map split t h = absurd h
 shown_textpairs rows S.Tuple split t h = absurd h
 shown_textpairs rows S.ListPairs split t h = absurd h
@@ -138,7 +138,7 @@ pub record IsTextJoin (form : StructForm) (split : JoinParts) (t : Data) : Type 
   pub text_is : t ≡ T.text text
   pub cuts : parted delim text ≡ joined_parts split
 
-pub shown_textjoin : (rows : List Row) (form : StructForm) (split : JoinParts) (t : Data) → Shows rows form (R.StringJoin split) t → IsTextJoin form split t
+pub shown_textjoin : (rows : List Row) (form : StructForm) (split : JoinParts) (t : Data) → FormShows rows form (R.StringJoin split) t → IsTextJoin form split t
 shown_textjoin rows S.Map split t h = absurd h
 shown_textjoin rows S.Tuple split t h = absurd h
 shown_textjoin rows S.ListPairs split t h = absurd h
@@ -187,10 +187,10 @@ module _ (rows : List Row) (ty : ℕ) (t : Data) (os : List (Option Data)) (part
 
     pub map_field : (p : Piece) (key : List ℕ) (r : Option Node) → parts.source ≡ R.Map p → key ≡ field_text f
         → ((u : Data) → StandsFor parts.fields.acc.now p u → Found (option_and_then (value_at key) (members_in u)) r)
-        → ((o : Option Data) → IsLookedUp f o → Found (shown f o) r → IsPart rows f o part)
+        → ((o : Option Data) → IsLookedUp f o → Found (shown f o) r → IsFieldPart rows f o part)
         → IsFieldOf rows parts.fields.def.now.fields os i part
     map_field p key r source name found told =
-        let x = shown_map rows parts.fields.def.now.form p t (subst (λ s. Shows rows parts.fields.def.now.form s t) source h.shows) in
+        let x = shown_map rows parts.fields.def.now.form p t (subst (λ s. FormShows rows parts.fields.def.now.form s t) source h.shows) in
         let fields : AreClearFields parts.fields.def.now.fields = subst (λ form. ClearStruct form parts.fields.def.now.fields) x.form_is clear in
         let made_map : struct_form S.Map parts.fields.def.now.fields os ≡ Some t = ap (λ form. struct_form form parts.fields.def.now.fields os) (sym x.form_is) ∙ made in
         let at = field_at parts.fields.def.now.fields i f less is in
@@ -206,12 +206,12 @@ module _ (rows : List Row) (ty : ℕ) (t : Data) (os : List (Option Data)) (part
         }
 
     pub tuple_field : (n : Node) (r : Option Node) → IsAccepted parts.fields.acc.now → parts.source ≡ R.Tuple n
-        → ((u : Data) → Stands n u → Finds n (place_of u i) (item_of u i) r)
-        → ((o : Option Data) → f.implicit ≡ None → Found o r → IsPart rows f o part)
+        → ((u : Data) → HasData n u → Finds n (place_of u i) (item_of u i) r)
+        → ((o : Option Data) → f.implicit ≡ None → Found o r → IsFieldPart rows f o part)
         → IsFieldOf rows parts.fields.def.now.fields os i part
     tuple_field n r accepted source found told =
         let at = field_at parts.fields.def.now.fields i f less is in
-        let x = shown_tuple rows parts.fields.def.now.form n t (subst (λ s. Shows rows parts.fields.def.now.form s t) source h.shows) in
+        let x = shown_tuple rows parts.fields.def.now.form n t (subst (λ s. FormShows rows parts.fields.def.now.form s t) source h.shows) in
         let made_tuple : struct_form S.Tuple parts.fields.def.now.fields os ≡ Some t = ap (λ form. struct_form form parts.fields.def.now.fields os) (sym x.form_is) ∙ made in
         let y = map_from (λ ds. T.list (T.items_of ds)) (tuple_items parts.fields.def.now.fields os) t made_tuple in
         let k = placed parts.fields.def.now.fields os y.item i y.there less in
@@ -228,10 +228,10 @@ module _ (rows : List Row) (ty : ℕ) (t : Data) (os : List (Option Data)) (part
 
     pub listpairs_field : (s : Items) (key : List ℕ) (r : Option Node) → parts.source ≡ R.ListPairs s → key ≡ field_text f
         → ((es : List (List ℕ × Data)) → HasItems s (T.items_of (map pair_data es)) → Found (value_at key es) r)
-        → ((o : Option Data) → IsLookedUp f o → Found (shown f o) r → IsPart rows f o part)
+        → ((o : Option Data) → IsLookedUp f o → Found (shown f o) r → IsFieldPart rows f o part)
         → IsFieldOf rows parts.fields.def.now.fields os i part
     listpairs_field s key r source name found told =
-        let x = shown_listpairs rows parts.fields.def.now.form s t (subst (λ u. Shows rows parts.fields.def.now.form u t) source h.shows) in
+        let x = shown_listpairs rows parts.fields.def.now.form s t (subst (λ u. FormShows rows parts.fields.def.now.form u t) source h.shows) in
         let fields : AreClearFields parts.fields.def.now.fields = subst (λ form. ClearStruct form parts.fields.def.now.fields) x.form_is clear in
         let made_pairs : struct_form S.ListPairs parts.fields.def.now.fields os ≡ Some t = ap (λ form. struct_form form parts.fields.def.now.fields os) (sym x.form_is) ∙ made in
         let at = field_at parts.fields.def.now.fields i f less is in
@@ -250,10 +250,10 @@ module _ (rows : List Row) (ty : ℕ) (t : Data) (os : List (Option Data)) (part
 
     pub stringpairs_field : (split : PairParts) (key : List ℕ) (r : Option (Bor (List ℕ))) → parts.source ≡ R.StringPairs split → key ≡ field_text f
         → option_map (λ (s : Bor (List ℕ)). s.now) r ≡ value_at key (pairs_in split)
-        → ((o : Option Data) → IsLookedUp f o → shown f o ≡ option_map (λ (s : Bor (List ℕ)). T.text s.now) r → IsPart rows f o part)
+        → ((o : Option Data) → IsLookedUp f o → shown f o ≡ option_map (λ (s : Bor (List ℕ)). T.text s.now) r → IsFieldPart rows f o part)
         → IsFieldOf rows parts.fields.def.now.fields os i part
     stringpairs_field split key r source name found told =
-        let x = shown_textpairs rows parts.fields.def.now.form split t (subst (λ u. Shows rows parts.fields.def.now.form u t) source h.shows) in
+        let x = shown_textpairs rows parts.fields.def.now.form split t (subst (λ u. FormShows rows parts.fields.def.now.form u t) source h.shows) in
         let both : AreClearFields parts.fields.def.now.fields × IsGiven x.inner = subst (λ form. ClearStruct form parts.fields.def.now.fields) x.form_is clear in
         let given : IsGiven x.entry = subst (λ form. HasDelims form parts.fields.def.now.fields) x.form_is delims in
         let made_pairs : struct_form (S.StringPairs x.inner x.entry) parts.fields.def.now.fields os ≡ Some t = ap (λ form. struct_form form parts.fields.def.now.fields os) (sym x.form_is) ∙ made in
@@ -274,12 +274,12 @@ module _ (rows : List Row) (ty : ℕ) (t : Data) (os : List (Option Data)) (part
 
     pub stringjoin_field : (split : JoinParts) (r : Option (Bor (List ℕ))) → IsAccepted parts.fields.acc.now → parts.source ≡ R.StringJoin split
         → option_map (λ (s : Bor (List ℕ)). s.now) r ≡ slice_get (joined_parts split) i
-        → ((o : Option Data) → f.implicit ≡ None → o ≡ option_map (λ (s : Bor (List ℕ)). T.text s.now) r → IsPart rows f o part)
+        → ((o : Option Data) → f.implicit ≡ None → o ≡ option_map (λ (s : Bor (List ℕ)). T.text s.now) r → IsFieldPart rows f o part)
         → IsFieldOf rows parts.fields.def.now.fields os i part
     stringjoin_field split r accepted source found told =
         let fs = parts.fields.def.now.fields in
         let at = field_at fs i f less is in
-        let x = shown_textjoin rows parts.fields.def.now.form split t (subst (λ u. Shows rows parts.fields.def.now.form u t) source h.shows) in
+        let x = shown_textjoin rows parts.fields.def.now.form split t (subst (λ u. FormShows rows parts.fields.def.now.form u t) source h.shows) in
         let given : HasDelims (S.StringJoin x.delim) fs = subst (λ form. HasDelims form fs) x.form_is delims in
         let made_join : struct_form (S.StringJoin x.delim) fs os ≡ Some t = ap (λ form. struct_form form fs os) (sym x.form_is) ∙ made in
         let k = joined_at x.delim x.text fs os i given less (made_join ∙ ap Some x.text_is) in

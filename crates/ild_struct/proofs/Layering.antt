@@ -23,7 +23,7 @@ use Rattle.ild_layer_piece.specs.Pieces.{StandsFor}
 use Rattle.ild_layer_piece.proofs.Stand.{piece_rises}
 use Rattle.ild_layer_fields.specs.Causes.{struct_why}
 use Rattle.ild_struct.specs.Parts.{ArePartsOf, HasParts, IsStruct, is_told}
-use Rattle.ild_struct.specs.Source.{Shows}
+use Rattle.ild_struct.specs.Source.{FormShows}
 use Rattle.ild_struct.specs.Told.{IsSurveyed}
 use Rattle.ild_struct.specs.declared.parts.StructParts.{StructParts}
 use Rattle.ild_struct.proofs.Telling.{told_parts}
@@ -36,7 +36,7 @@ pub refused_of : (rows : List Row) (ty : ℕ) (s : StructDef) (t : Data) (why : 
 refused_of rows ty s t why is h = ap (option_and_then (λ (d : TypeDef). why_of d t)) is ∙ h
 
 pub parts_of : (ty : ℕ) (p : Piece) (t : Data) (parts : StructParts) → IsLegible parts.fields.acc.now → IsStruct parts.fields.acc.now ty parts.fields.def.now → StandsFor parts.fields.acc.now p t
-    → struct_why parts.fields.def.now.form parts.fields.def.now.fields t ≡ None → Shows parts.fields.acc.now parts.fields.def.now.form parts.source t
+    → struct_why parts.fields.def.now.form parts.fields.def.now.fields t ≡ None → FormShows parts.fields.acc.now parts.fields.def.now.form parts.source t
     → (is_told parts ≡ true → IsSurveyed parts.fields.acc.now parts.fields.def.now.fields parts.source) → HasParts parts.fields.acc.now ty t parts
 parts_of ty p t parts legible is stands none shows tells =
     let rows = parts.fields.acc.now in

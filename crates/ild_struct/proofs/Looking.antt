@@ -7,7 +7,7 @@ use Rattle.ild_data.specs.Data as T
 use Rattle.ild_data.specs.Data.{Data}
 use Rattle.ild_data.specs.Key.{value_at}
 use Rattle.ild_data.proofs.Lists.{members_list-members_of}
-use Rattle.ild_cbor.specs.Nodes.{Stands}
+use Rattle.ild_cbor.specs.Nodes.{HasData}
 use Rattle.ild_cbor.specs.declared.node.Node.{Node}
 use Rattle.ild_schema.specs.Clear.{AreNamesApart}
 use Rattle.ild_schema.specs.Delims.{HasDelims}
@@ -25,7 +25,7 @@ use Rattle.ild_typed.proofs.Entries.{both_from, only_text_data, value_sorted}
 use Rattle.ild_typed.proofs.CleanTexts.{parted_join}
 use Rattle.ild_typed.proofs.Structs.{all_count, field_from, look, past, not_there}
 use Rattle.ild_layer_piece.specs.Entries.{Found}
-use Rattle.ild_struct.specs.Parts.{IsPart}
+use Rattle.ild_struct.specs.Parts.{IsFieldPart}
 use Rattle.ild_struct.specs.inside.Reading.{IsLookedUp, shown}
 use Rattle.ild_struct.specs.declared.part.Part.{Part}
 use Rattle.ild_layer_fields.proofs.Placing.{all_at}
@@ -71,16 +71,16 @@ map_keyed fs os t i f apart made at =
     subst (Keyed f os i) (sym same) (keyed fs os x.item i f apart x.there at)
 
 -- the part of what was found
-pub keyed_part : (rows : List Row) (f : Field) (n : Node) (part : Part) → ((d : Data) → Stands n d → is_implicit f.implicit d ≡ false → IsPart rows f (Some d) part)
-    → (o : Option Data) → IsLookedUp f o → Found (shown f o) (Some n) → IsPart rows f o part
+pub keyed_part : (rows : List Row) (f : Field) (n : Node) (part : Part) → ((d : Data) → HasData n d → is_implicit f.implicit d ≡ false → IsFieldPart rows f (Some d) part)
+    → (o : Option Data) → IsLookedUp f o → Found (shown f o) (Some n) → IsFieldPart rows f o part
 keyed_part rows f n part held None l found = absurd found
 keyed_part rows f n part held (Some d) l found = by (is_implicit f.implicit d) refl found where
-  by : (b : Bool) → is_implicit f.implicit d ≡ b → Found (cond b None (Some d)) (Some n) → IsPart rows f (Some d) part
+  by : (b : Bool) → is_implicit f.implicit d ≡ b → Found (cond b None (Some d)) (Some n) → IsFieldPart rows f (Some d) part
   by true is here = absurd here
   by false is here = held d here is
 
-pub placed_part : (rows : List Row) (f : Field) (n : Node) (part : Part) → ((d : Data) → Stands n d → is_implicit f.implicit d ≡ false → IsPart rows f (Some d) part)
-    → (o : Option Data) → f.implicit ≡ None → Found o (Some n) → IsPart rows f o part
+pub placed_part : (rows : List Row) (f : Field) (n : Node) (part : Part) → ((d : Data) → HasData n d → is_implicit f.implicit d ≡ false → IsFieldPart rows f (Some d) part)
+    → (o : Option Data) → f.implicit ≡ None → Found o (Some n) → IsFieldPart rows f o part
 placed_part rows f n part held None plain found = absurd found
 placed_part rows f n part held (Some d) plain found = held d found (ap (λ v. is_implicit v d) plain)
 

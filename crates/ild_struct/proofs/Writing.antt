@@ -8,7 +8,7 @@ use Rattle.ild_data.specs.Data as T
 use Rattle.ild_data.specs.Data.{Data}
 use Rattle.ild_data.specs.Key.{Rises, value_at}
 use Rattle.ild_data.proofs.Lists.{items_list-items_of}
-use Rattle.ild_cbor.specs.Nodes.{Stands}
+use Rattle.ild_cbor.specs.Nodes.{HasData}
 use Rattle.ild_cbor.specs.Steps.{HasItems, FindsItems, items_of as node_items}
 use Rattle.ild_cbor.specs.declared.items.Items.{Items}
 use Rattle.ild_cbor.specs.declared.node.Node.{Node}
@@ -47,7 +47,7 @@ use Rattle.ild_layer_piece.proofs.Stand.{piece_rises}
 use Rattle.ild_struct.specs.Parts.{ArePartsOf}
 use Rattle.ild_struct.specs.Present.{numbered}
 use Rattle.ild_layer_fields.specs.Entries.{by_place}
-use Rattle.ild_struct.specs.Source.{Shows}
+use Rattle.ild_struct.specs.Source.{FormShows}
 use Rattle.ild_layer_fields.specs.Entries.{text_entries}
 use Rattle.ild_struct.specs.inside.Stepping.{Starts}
 use Rattle.ild_struct.specs.declared.left.Left.TheVariants as R
@@ -115,7 +115,7 @@ module _ (rows : List Row) (ty : ℕ) (t : Data) (os : List (Option Data)) (part
 
   pub map_starts : (p : Piece) (s : MapEntries) → parts.source ≡ O.Map p → ((u : Data) → StandsFor parts.fields.acc.now p u → Maps (members_in u) (Some s)) → Starts fs os (R.Map s 0)
   map_starts p s source found =
-      let x = shown_map rows parts.fields.def.now.form p t (subst (λ o. Shows rows parts.fields.def.now.form o t) source h.shows) in
+      let x = shown_map rows parts.fields.def.now.form p t (subst (λ o. FormShows rows parts.fields.def.now.form o t) source h.shows) in
       let clear_map : AreClearFields fs = subst (λ form. ClearStruct form fs) x.form_is clear in
       let made_map : struct_form S.Map fs os ≡ Some t = ap (λ form. struct_form form fs os) (sym x.form_is) ∙ made in
       let e = found_entries t s (found t (subst (λ rs. StandsFor rs p t) (sym h.table) x.stands)) in
@@ -128,15 +128,15 @@ module _ (rows : List Row) (ty : ℕ) (t : Data) (os : List (Option Data)) (part
 
   pub no_map : (p : Piece) → parts.source ≡ O.Map p → ((u : Data) → StandsFor parts.fields.acc.now p u → Maps (members_in u) None) → ⊥
   no_map p source found =
-      let x = shown_map rows parts.fields.def.now.form p t (subst (λ o. Shows rows parts.fields.def.now.form o t) source h.shows) in
+      let x = shown_map rows parts.fields.def.now.form p t (subst (λ o. FormShows rows parts.fields.def.now.form o t) source h.shows) in
       let made_map : struct_form S.Map fs os ≡ Some t = ap (λ form. struct_form form fs os) (sym x.form_is) ∙ made in
       let y = map_from (λ es. map_data (in_key_order es)) (field_entries fs os) t made_map in
       let none = no_entries t (found t (subst (λ rs. StandsFor rs p t) (sym h.table) x.stands)) in
       none-some _ (sym none ∙ ap members_in (sym (same_Some (map_data (in_key_order y.item)) t y.made)))
 
-  pub tuple_starts : (n : Node) (s : Items) → parts.source ≡ O.Tuple n → ((u : Data) → Stands n u → FindsItems n (node_items u) (Some s)) → Starts fs os (R.Tuple s)
+  pub tuple_starts : (n : Node) (s : Items) → parts.source ≡ O.Tuple n → ((u : Data) → HasData n u → FindsItems n (node_items u) (Some s)) → Starts fs os (R.Tuple s)
   tuple_starts n s source found =
-      let x = shown_tuple rows parts.fields.def.now.form n t (subst (λ o. Shows rows parts.fields.def.now.form o t) source h.shows) in
+      let x = shown_tuple rows parts.fields.def.now.form n t (subst (λ o. FormShows rows parts.fields.def.now.form o t) source h.shows) in
       let made_tuple : struct_form S.Tuple fs os ≡ Some t = ap (λ form. struct_form form fs os) (sym x.form_is) ∙ made in
       let y = map_from (λ ds. T.list (T.items_of ds)) (tuple_items fs os) t made_tuple in
       let is : t ≡ T.list (T.items_of y.item) = sym (same_Some (T.list (T.items_of y.item)) t y.made) in
@@ -147,16 +147,16 @@ module _ (rows : List Row) (ty : ℕ) (t : Data) (os : List (Option Data)) (part
         leaves = (T.items_of y.item, left, ap (numbered zero) (sym (items_list-items_of y.item)));
       }
 
-  pub no_tuple : (n : Node) → parts.source ≡ O.Tuple n → ((u : Data) → Stands n u → FindsItems n (node_items u) None) → ⊥
+  pub no_tuple : (n : Node) → parts.source ≡ O.Tuple n → ((u : Data) → HasData n u → FindsItems n (node_items u) None) → ⊥
   no_tuple n source found =
-      let x = shown_tuple rows parts.fields.def.now.form n t (subst (λ o. Shows rows parts.fields.def.now.form o t) source h.shows) in
+      let x = shown_tuple rows parts.fields.def.now.form n t (subst (λ o. FormShows rows parts.fields.def.now.form o t) source h.shows) in
       let made_tuple : struct_form S.Tuple fs os ≡ Some t = ap (λ form. struct_form form fs os) (sym x.form_is) ∙ made in
       let y = map_from (λ ds. T.list (T.items_of ds)) (tuple_items fs os) t made_tuple in
       subst (λ u. FindsItems n (node_items u) None) (sym (same_Some (T.list (T.items_of y.item)) t y.made)) (found t x.stands)
 
   pub listpairs_starts : (s : Items) → parts.source ≡ O.ListPairs s → Starts fs os (R.ListPairs s)
   listpairs_starts s source =
-      let x = shown_listpairs rows parts.fields.def.now.form s t (subst (λ o. Shows rows parts.fields.def.now.form o t) source h.shows) in
+      let x = shown_listpairs rows parts.fields.def.now.form s t (subst (λ o. FormShows rows parts.fields.def.now.form o t) source h.shows) in
       let clear_pairs : AreClearFields fs = subst (λ form. ClearStruct form fs) x.form_is clear in
       let made_pairs : struct_form S.ListPairs fs os ≡ Some t = ap (λ form. struct_form form fs os) (sym x.form_is) ∙ made in
       let y = map_from listpairs (field_entries fs os) t made_pairs in
@@ -171,7 +171,7 @@ module _ (rows : List Row) (ty : ℕ) (t : Data) (os : List (Option Data)) (part
 
   pub stringpairs_starts : (split : PairParts) → parts.source ≡ O.StringPairs split → Starts fs os (R.StringPairs split)
   stringpairs_starts split source =
-      let x = shown_textpairs rows parts.fields.def.now.form split t (subst (λ o. Shows rows parts.fields.def.now.form o t) source h.shows) in
+      let x = shown_textpairs rows parts.fields.def.now.form split t (subst (λ o. FormShows rows parts.fields.def.now.form o t) source h.shows) in
       let both : AreClearFields fs × IsGiven x.inner = subst (λ form. ClearStruct form fs) x.form_is clear in
       let given : IsGiven x.entry = subst (λ form. HasDelims form fs) x.form_is delims in
       let made_pairs : struct_form (S.StringPairs x.inner x.entry) fs os ≡ Some t = ap (λ form. struct_form form fs os) (sym x.form_is) ∙ made in
@@ -188,7 +188,7 @@ module _ (rows : List Row) (ty : ℕ) (t : Data) (os : List (Option Data)) (part
 
   pub stringjoin_starts : (split : JoinParts) → parts.source ≡ O.StringJoin split → Starts fs os (R.StringJoin (Some split))
   stringjoin_starts split source =
-      let x = shown_textjoin rows parts.fields.def.now.form split t (subst (λ o. Shows rows parts.fields.def.now.form o t) source h.shows) in
+      let x = shown_textjoin rows parts.fields.def.now.form split t (subst (λ o. FormShows rows parts.fields.def.now.form o t) source h.shows) in
       let given : HasDelims (S.StringJoin x.delim) fs = subst (λ form. HasDelims form fs) x.form_is delims in
       let made_join : struct_form (S.StringJoin x.delim) fs os ≡ Some t = ap (λ form. struct_form form fs os) (sym x.form_is) ∙ made in
       let c = clean (subst KeysRise (sym x.text_is) tt) in

@@ -2,7 +2,7 @@
 use Rattle.std.specs.Prelude.{◌≡◌, ℕ, Bool, true, false, List, Option, Some, None, slice_get}
 use Rattle.ild_data.specs.Data as T
 use Rattle.ild_data.specs.Data.{Data}
-use Rattle.ild_cbor.specs.Nodes.{Stands}
+use Rattle.ild_cbor.specs.Nodes.{HasData}
 use Rattle.ild_schema.specs.Kinds.{meant}
 use Rattle.ild_schema.specs.declared.def.Field.{Field}
 use Rattle.ild_schema.specs.declared.def.StructDef.{StructDef}
@@ -12,7 +12,7 @@ use Rattle.ild_typed.specs.Fields.{is_implicit}
 use Rattle.ild_typed.specs.Layer as L
 use Rattle.ild_layer_piece.specs.Answers.{Layered}
 use Rattle.ild_layer_piece.specs.Pieces.{IsNumbered, StandsFor}
-use Rattle.ild_struct.specs.Source.{Shows}
+use Rattle.ild_struct.specs.Source.{FormShows}
 use Rattle.ild_struct.specs.Told.{AreTold}
 use Rattle.ild_struct.specs.declared.part.Part.{Part}
 use Rattle.ild_struct.specs.declared.part.Part.TheVariants as P
@@ -25,12 +25,12 @@ IsStruct rows ty s = meant rows ty ≡ Some (D.Struct s)
 -- ---- a part
 
 -- what is handed out of a field with these data, or without
-abbrev pub IsPart : List Row → Field → Option Data → Part → Type 0
-IsPart rows f None P.Absent = Unit {0}
-IsPart rows f (Some d) P.Implicit = is_implicit f.implicit d ≡ true
-IsPart rows f (Some d) (P.Null n) = Stands n d × (d ≡ T.null)
-IsPart rows f (Some d) (P.Held p) = StandsFor rows p d × (d ≡ T.null → ⊥) × (is_implicit f.implicit d ≡ false)
-IsPart rows f o part = ⊥
+abbrev pub IsFieldPart : List Row → Field → Option Data → Part → Type 0
+IsFieldPart rows f None P.Absent = Unit {0}
+IsFieldPart rows f (Some d) P.Implicit = is_implicit f.implicit d ≡ true
+IsFieldPart rows f (Some d) (P.Null n) = HasData n d × (d ≡ T.null)
+IsFieldPart rows f (Some d) (P.Held p) = StandsFor rows p d × (d ≡ T.null → ⊥) × (is_implicit f.implicit d ≡ false)
+IsFieldPart rows f o part = ⊥
 
 -- of the field with a number
 pub record IsFieldOf (rows : List Row) (fs : List Field) (os : List (Option Data)) (i : ℕ) (part : Part) : Type 0 where
@@ -38,7 +38,7 @@ pub record IsFieldOf (rows : List Row) (fs : List Field) (os : List (Option Data
   pub there : slice_get fs i ≡ Some field
   pub held : Option Data
   pub at : slice_get os i ≡ Some held
-  pub is : IsPart rows field held part
+  pub is : IsFieldPart rows field held part
 
 -- no discriminant is passed over in what is handed out, but of a union in the table
 abbrev pub HasNumber : List Row → Part → Type 0
@@ -59,7 +59,7 @@ is_told parts = parts.told
 pub record ArePartsOf (rows : List Row) (ty : ℕ) (t : Data) (os : List (Option Data)) (parts : StructParts) : Type 0 where
   pub table : parts.fields.acc.now ≡ rows
   pub struct : IsStruct rows ty parts.fields.def.now
-  pub shows : Shows rows parts.fields.def.now.form parts.source t
+  pub shows : FormShows rows parts.fields.def.now.form parts.source t
   pub layered : Layered rows ty t (L.struct os)
   pub told : is_told parts ≡ true → AreTold rows parts.fields.def.now.fields os
 

@@ -2,7 +2,7 @@
 use Rattle.std.specs.Prelude.{◌≡◌, ℕ, suc, ◌≤◌, List, length, Some}
 use Rattle.ild_data.specs.Data as T
 use Rattle.ild_data.specs.Data.{Data, Items}
-use Rattle.ild_cbor.specs.Nodes.{Stands}
+use Rattle.ild_cbor.specs.Nodes.{HasData}
 use Rattle.ild_cbor.specs.Steps.{HasItems}
 use Rattle.ild_cbor.specs.declared.piece.Piece.{Piece}
 use Rattle.ild_cbor.specs.declared.piece.Piece.TheVariants as P
@@ -31,10 +31,10 @@ abbrev pub IsSourced : List Row → Source → Type 0
 IsSourced rows source = types_in source ≤ length rows
 
 -- the data there, in each form
-abbrev pub Shows : List Row → StructForm → Source → Data → Type 0
-Shows rows S.Map (R.Map p) t = StandsFor rows p t
-Shows rows S.Tuple (R.Tuple n) t = Stands n t
-Shows rows S.ListPairs (R.ListPairs s) t = (ds : Items) × (t ≡ T.list ds) × HasItems s ds
-Shows rows (S.StringPairs inner entry) (R.StringPairs split) t = split_entries inner entry t ≡ Some (text_entries (pairs_in split))
-Shows rows (S.StringJoin delim) (R.StringJoin split) t = (s : List ℕ) × (t ≡ T.text s) × (parted delim s ≡ parts split)
-Shows rows form source t = ⊥
+abbrev pub FormShows : List Row → StructForm → Source → Data → Type 0
+FormShows rows S.Map (R.Map p) t = StandsFor rows p t
+FormShows rows S.Tuple (R.Tuple n) t = HasData n t
+FormShows rows S.ListPairs (R.ListPairs s) t = (ds : Items) × (t ≡ T.list ds) × HasItems s ds
+FormShows rows (S.StringPairs inner entry) (R.StringPairs split) t = split_entries inner entry t ≡ Some (text_entries (pairs_in split))
+FormShows rows (S.StringJoin delim) (R.StringJoin split) t = (s : List ℕ) × (t ≡ T.text s) × (parted delim s ≡ parts split)
+FormShows rows form source t = ⊥

@@ -1,10 +1,10 @@
 //! The parts that stand for fields.
 ghost use Rattle.std.specs.Prelude.{◌≡◌, ◌<◌, ℕ, List, Option, None, Some, false, length, option_map};
 ghost use Rattle.ild_data.specs.Data.{Data, text};
-ghost use Rattle.ild_cbor.specs.Nodes.{Stands};
+ghost use Rattle.ild_cbor.specs.Nodes.{HasData};
 ghost use Rattle.ild_schema.specs.declared.def.Field.{Field as Schema};
 ghost use Rattle.ild_schema.specs.declared.row.Row.{Row};
-ghost use Rattle.ild_struct.specs.Parts.{ArePartsOf, HasNumber, IsFieldOf, IsPart, fields_of};
+ghost use Rattle.ild_struct.specs.Parts.{ArePartsOf, HasNumber, IsFieldOf, IsFieldPart, fields_of};
 ghost use Rattle.ild_layer_piece.specs.Entries.{Found};
 ghost use Rattle.ild_typed.specs.Fields.{is_implicit};
 ghost use Rattle.ild_struct.specs.inside.Reading.{IsLookedUp, shown};
@@ -20,7 +20,7 @@ use ild_schema::{Field, text_of_field};
 
 // A part that is written.
 fn held(node: Node<'_>) -> Part<'_>
-    ensures held { (rows : List Row) (field : Schema) (d : Data) → Stands node.entry d → is_implicit field.implicit d ≡ false → IsPart rows field (Some d) result }
+    ensures held { (rows : List Row) (field : Schema) (d : Data) → HasData node.entry d → is_implicit field.implicit d ≡ false → IsFieldPart rows field (Some d) result }
     ensures numbered { (rows : List Row) → HasNumber rows result }
 {
     if node.kind() == Kind::Null {
@@ -32,7 +32,7 @@ fn held(node: Node<'_>) -> Part<'_>
 
 // The part of a field of which nothing is written.
 fn left_out<'b>(field: &Field) -> Part<'b>
-    ensures part { (rows : List Row) (o : Option Data) → IsLookedUp field.now o → shown field.now o ≡ None → IsPart rows field.now o result }
+    ensures part { (rows : List Row) (o : Option Data) → IsLookedUp field.now o → shown field.now o ≡ None → IsFieldPart rows field.now o result }
     ensures numbered { (rows : List Row) → HasNumber rows result }
 {
     match field.implicit {
@@ -43,7 +43,7 @@ fn left_out<'b>(field: &Field) -> Part<'b>
 
 // The part of a field that was looked up by its name.
 fn keyed<'b>(field: &Field, found: Option<Node<'b>>) -> Part<'b>
-    ensures part { (rows : List Row) (o : Option Data) → IsLookedUp field.now o → Found (shown field.now o) found.entry → IsPart rows field.now o result }
+    ensures part { (rows : List Row) (o : Option Data) → IsLookedUp field.now o → Found (shown field.now o) found.entry → IsFieldPart rows field.now o result }
     ensures numbered { (rows : List Row) → HasNumber rows result }
 {
     match found {
@@ -54,7 +54,7 @@ fn keyed<'b>(field: &Field, found: Option<Node<'b>>) -> Part<'b>
 
 // The part of a field that was looked up by its place.
 fn placed(found: Option<Node<'_>>) -> Part<'_>
-    ensures part { (rows : List Row) (field : Schema) (o : Option Data) → field.implicit ≡ None → Found o found.entry → IsPart rows field o result }
+    ensures part { (rows : List Row) (field : Schema) (o : Option Data) → field.implicit ≡ None → Found o found.entry → IsFieldPart rows field o result }
     ensures numbered { (rows : List Row) → HasNumber rows result }
 {
     match found {
@@ -65,7 +65,7 @@ fn placed(found: Option<Node<'_>>) -> Part<'_>
 
 // The part of a field that was looked up by its name among texts.
 fn keyed_text<'b>(field: &Field, found: Option<&'b str>) -> Part<'b>
-    ensures part { (rows : List Row) (o : Option Data) → IsLookedUp field.now o → shown field.now o ≡ option_map (λ s. text s.now) found.entry → IsPart rows field.now o result }
+    ensures part { (rows : List Row) (o : Option Data) → IsLookedUp field.now o → shown field.now o ≡ option_map (λ s. text s.now) found.entry → IsFieldPart rows field.now o result }
     ensures numbered { (rows : List Row) → HasNumber rows result }
 {
     match found {
@@ -76,7 +76,7 @@ fn keyed_text<'b>(field: &Field, found: Option<&'b str>) -> Part<'b>
 
 // The part of a field that was looked up by its place among texts.
 fn placed_text(found: Option<&str>) -> Part<'_>
-    ensures part { (rows : List Row) (field : Schema) (o : Option Data) → field.implicit ≡ None → o ≡ option_map (λ s. text s.now) found.entry → IsPart rows field o result }
+    ensures part { (rows : List Row) (field : Schema) (o : Option Data) → field.implicit ≡ None → o ≡ option_map (λ s. text s.now) found.entry → IsFieldPart rows field o result }
     ensures numbered { (rows : List Row) → HasNumber rows result }
 {
     match found {

@@ -2,7 +2,7 @@
 ghost use Rattle.std.specs.Prelude.{◌∷◌, [], ℕ, List, IfOk, map};
 ghost use Rattle.ild_data.specs.Data.{Data, items_of};
 ghost use Rattle.ild_data.specs.Key.{value_at};
-ghost use Rattle.ild_cbor.specs.Nodes.{Stands};
+ghost use Rattle.ild_cbor.specs.Nodes.{HasData};
 ghost use Rattle.ild_cbor.specs.Steps.{HasItems};
 ghost use Rattle.ild_layer_piece.specs.Entries.{Found};
 ghost use Rattle.ild_layer_piece.specs.Pieces.{StandsFor};
@@ -10,7 +10,7 @@ ghost use Rattle.ild_schema.specs.Clear.{AreNamesApart};
 ghost use Rattle.ild_schema.specs.declared.def.StructForm.TheVariants as S;
 ghost use Rattle.ild_schema.specs.declared.row.Row.{Row};
 ghost use Rattle.ild_typed.specs.Strings.{pair_data};
-ghost use Rattle.ild_struct.specs.inside.Reading.{Answers};
+ghost use Rattle.ild_struct.specs.inside.Reading.{FormIsRead};
 ghost use Rattle.ild_struct.specs.Source.{IsSourced};
 
 use crate::source::Source;
@@ -23,7 +23,7 @@ pub(crate) fn listpairs_source<'b>(
     fields: &Fields<'b>,
     piece: &Piece<'b>,
 ) -> Result<Source<'b>, Why>
-    ensures answers { AreNamesApart fields.now.def.now.fields → (rows : List Row) (t : Data) → StandsFor rows piece.now t → Answers rows S.ListPairs fields.now.def.now.fields t result }
+    ensures answers { AreNamesApart fields.now.def.now.fields → (rows : List Row) (t : Data) → StandsFor rows piece.now t → FormIsRead rows S.ListPairs fields.now.def.now.fields t result }
     ensures sourced { (rows : List Row) → IfOk result (IsSourced rows) }
 {
     let Some(items) = items(piece) else {
@@ -40,7 +40,7 @@ pub(crate) fn listpairs_source<'b>(
 
 // The value of a pair, where its name is this one.
 fn value_in<'b>(item: &Node<'b>, key: &str) -> Option<Node<'b>>
-    ensures { (e : List ℕ × Data) → Stands item.now (pair_data e) → Found (value_at key.now (e ∷ [])) result }
+    ensures { (e : List ℕ × Data) → HasData item.now (pair_data e) → Found (value_at key.now (e ∷ [])) result }
 {
     match Pair::of(item) {
         Pair::Entry(name, value) => { if key == name { Some(value) } else { None } }

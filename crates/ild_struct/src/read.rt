@@ -10,7 +10,7 @@ ghost use Rattle.ild_schema.specs.Clear.{ClearStruct};
 ghost use Rattle.ild_schema.specs.Delims.{HasDelims};
 ghost use Rattle.ild_schema.specs.declared.def.StructDef.{StructDef as Struct};
 ghost use Rattle.ild_struct.specs.Parts.{HasParts, IsStruct, fields_of};
-ghost use Rattle.ild_struct.specs.inside.Reading.{Answers, AnswersFound};
+ghost use Rattle.ild_struct.specs.inside.Reading.{FormIsRead, AnswersFound};
 ghost use Rattle.ild_struct.specs.Source.{IsSourced};
 ghost use Rattle.ild_struct.specs.Told.{IsSurveyed};
 
@@ -26,7 +26,7 @@ use ild_schema::{Accepted, StructForm, TypeDef, TypeNo};
 
 // A source of whose values no kind tells anything.
 fn untold(found: Result<Source<'_>, Why>) -> Result<(Source<'_>, bool), Why>
-    ensures answers { (rows : List Row) (form : Form) (fs : List Field) (t : Data) → Answers rows form fs t found.entry → AnswersFound rows form fs t result }
+    ensures answers { (rows : List Row) (form : Form) (fs : List Field) (t : Data) → FormIsRead rows form fs t found.entry → AnswersFound rows form fs t result }
     ensures sourced { (rows : List Row) → IfOk found.entry (IsSourced rows) → IfOk result (λ x. IsSourced rows x.0) }
     ensures told { IfOk result (λ x. x.1 ≡ false) }
 {

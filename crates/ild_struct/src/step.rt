@@ -12,7 +12,7 @@ ghost use Rattle.std.specs.Iterator.{at_most};
 ghost use Rattle.ild_layer_fields.specs.Entries.{by_place, text_entries};
 ghost use Rattle.ild_struct.specs.Present.{HasPresent, PresentGives, count_left, numbered};
 ghost use Rattle.ild_struct.specs.declared.left.Left.TheVariants as L;
-ghost use Rattle.ild_struct.specs.inside.Stepping.{Takes};
+ghost use Rattle.ild_struct.specs.inside.Stepping.{TakesField};
 
 use crate::left::Left;
 use crate::present::Present;
@@ -27,7 +27,7 @@ type Taken<'b> = (usize, Piece<'b>, Left<'b>);
 // The first entry of a map.
 fn take_entry<'b>(fields: &Fields<'b>, entries: MapEntries<'b>, guess: usize) -> Option<Taken<'b>>
     ensures fewer { IfSome result (λ r. count_left r.2 < count_left (L.Map entries.entry guess)) }
-    ensures takes { AreNamesApart fields.now.def.now.fields → (es : List (List ℕ × Data)) → HasLeft entries.entry es → Takes fields.now.def.now.fields (by_place fields.now.def.now.fields es) result }
+    ensures takes { AreNamesApart fields.now.def.now.fields → (es : List (List ℕ × Data)) → HasLeft entries.entry es → TakesField fields.now.def.now.fields (by_place fields.now.def.now.fields es) result }
 {
     let mut left = entries;
     let (name, value) = left.next()?;
@@ -39,7 +39,7 @@ fn take_entry<'b>(fields: &Fields<'b>, entries: MapEntries<'b>, guess: usize) ->
 // The first item of a list.
 fn take_item<'b>(items: Items<'b>, next: usize) -> Option<Taken<'b>>
     ensures fewer { IfSome result (λ r. count_left r.2 < count_left (L.Tuple items.entry)) }
-    ensures takes { (fs : List Field) (ds : Parts) → HasItems items.entry ds → Takes fs (numbered next (items_list ds)) result }
+    ensures takes { (fs : List Field) (ds : Parts) → HasItems items.entry ds → TakesField fs (numbered next (items_list ds)) result }
 {
     let mut left = items;
     let value = left.next()?;
@@ -50,7 +50,7 @@ fn take_item<'b>(items: Items<'b>, next: usize) -> Option<Taken<'b>>
 fn take_pair<'b>(fields: &Fields<'b>, items: Items<'b>, next: usize) -> Option<Taken<'b>>
     ensures fewer { IfSome result (λ r. count_left r.2 < count_left (L.ListPairs items.entry)) }
     ensures takes { AreNamesApart fields.now.def.now.fields → (es : List (List ℕ × Data)) → HasItems items.entry (items_of (map pair_data es))
-        → Takes fields.now.def.now.fields (by_place fields.now.def.now.fields es) result }
+        → TakesField fields.now.def.now.fields (by_place fields.now.def.now.fields es) result }
 {
     let mut left = items;
     let item = left.next()?;
@@ -66,7 +66,7 @@ fn take_pair<'b>(fields: &Fields<'b>, items: Items<'b>, next: usize) -> Option<T
 // The first pair of a text.
 fn take_text_pair<'b>(fields: &Fields<'b>, split: PairParts<'b>, next: usize) -> Option<Taken<'b>>
     ensures fewer { IfSome result (λ r. count_left r.2 < count_left (L.StringPairs split.entry)) }
-    ensures takes { AreNamesApart fields.now.def.now.fields → Takes fields.now.def.now.fields (by_place fields.now.def.now.fields (text_entries (pairs_in split.entry))) result }
+    ensures takes { AreNamesApart fields.now.def.now.fields → TakesField fields.now.def.now.fields (by_place fields.now.def.now.fields (text_entries (pairs_in split.entry))) result }
 {
     let ((name, value), behind) = split.split_first()?;
     let place = fields.place(name, next);
@@ -76,7 +76,7 @@ fn take_text_pair<'b>(fields: &Fields<'b>, split: PairParts<'b>, next: usize) ->
 // The first part of a text.
 fn take_text<'b>(split: Option<JoinParts<'b>>, next: usize) -> Option<Taken<'b>>
     ensures fewer { IfSome result (λ r. count_left r.2 < count_left (L.StringJoin split.entry)) }
-    ensures takes { (fs : List Field) → Takes fs (numbered next (map T.text (parts_left split.entry))) result }
+    ensures takes { (fs : List Field) → TakesField fs (numbered next (map T.text (parts_left split.entry))) result }
 {
     let (part, behind) = split?.split_first();
     Some((next, Piece::Text(part), Left::StringJoin(behind)))
@@ -86,7 +86,7 @@ impl<'b> Present<'b> {
     // The first of the parts that are left.
     fn first(&self) -> Option<Taken<'b>>
         ensures fewer { IfSome result (λ r. count_left r.2 < count_left self.now.left) }
-        ensures takes { (xs : List (ℕ × Data)) → HasPresent self.now xs → Takes self.now.fields.def.now.fields xs result }
+        ensures takes { (xs : List (ℕ × Data)) → HasPresent self.now xs → TakesField self.now.fields.def.now.fields xs result }
     {
         match self.left {
             Left::Map(entries, guess) => take_entry(&self.fields, entries, guess),

@@ -8,7 +8,7 @@ ghost use Rattle.ild_schema.specs.declared.def.Field.{Field as Schema};
 ghost use Rattle.ild_schema.specs.declared.def.StructForm.TheVariants as S;
 ghost use Rattle.ild_schema.specs.declared.row.Row.{Row};
 ghost use Rattle.ild_text.specs.Parts.{pairs_in};
-ghost use Rattle.ild_struct.specs.inside.Reading.{Answers};
+ghost use Rattle.ild_struct.specs.inside.Reading.{FormIsRead};
 ghost use Rattle.ild_struct.specs.Source.{IsSourced};
 
 use crate::source::Source;
@@ -27,7 +27,7 @@ pub(crate) fn stringpairs_source<'b>(
     requires inner_some { 0 < length inner.now }
     requires entry_some { 0 < length entry.now }
     ensures answers { AreNamesApart fields.now.def.now.fields → (rows : List Row) (t : Data) → StandsFor rows piece.now t
-        → Answers rows (S.StringPairs inner.now entry.now) fields.now.def.now.fields t result }
+        → FormIsRead rows (S.StringPairs inner.now entry.now) fields.now.def.now.fields t result }
     ensures sourced { (rows : List Row) → IfOk result (IsSourced rows) }
 {
     let Some(text) = text(piece) else {
@@ -50,7 +50,7 @@ pub(crate) fn stringjoin_source<'b>(
     piece: &Piece<'b>,
 ) -> Result<Source<'b>, Why>
     requires { 0 < length delim.now }
-    ensures answers { (rows : List Row) (fields : List Schema) (t : Data) → count ≡ length fields → StandsFor rows piece.now t → Answers rows (S.StringJoin delim.now) fields t result }
+    ensures answers { (rows : List Row) (fields : List Schema) (t : Data) → count ≡ length fields → StandsFor rows piece.now t → FormIsRead rows (S.StringJoin delim.now) fields t result }
     ensures sourced { (rows : List Row) → IfOk result (IsSourced rows) }
 {
     let Some(text) = text(piece) else {

@@ -7,7 +7,7 @@ ghost use Rattle.ild_schema.specs.declared.row.Row.{Row};
 ghost use Rattle.ild_schema.specs.declared.def.StructForm.TheVariants as S;
 ghost use Rattle.ild_typed.specs.Named.{items_in};
 ghost use Rattle.ild_typed.specs.StructWhy.{misses_items};
-ghost use Rattle.ild_struct.specs.inside.Reading.{Answers, IsList};
+ghost use Rattle.ild_struct.specs.inside.Reading.{FormIsRead, IsList};
 ghost use Rattle.ild_struct.specs.Source.{IsSourced};
 
 use crate::source::Source;
@@ -50,7 +50,7 @@ fn misses(fields: &[Field], count: u64) -> bool
 /// A list in which the fields are looked up, or the first cause why the piece is no struct.
 pub(crate) fn tuple_source<'b>(fields: &[Field], piece: &Piece<'b>) -> Result<Source<'b>, Why>
     requires { length fields.now ≤ 1024 }
-    ensures answers { (rows : List Row) (t : Data) → StandsFor rows piece.now t → Answers rows S.Tuple fields.now t result }
+    ensures answers { (rows : List Row) (t : Data) → StandsFor rows piece.now t → FormIsRead rows S.Tuple fields.now t result }
     ensures sourced { (rows : List Row) → IfOk result (IsSourced rows) }
 {
     let Some((node, count)) = list(piece) else {

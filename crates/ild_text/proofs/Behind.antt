@@ -9,7 +9,7 @@ use Rattle.ild_schema.specs.declared.def.Member.{Member}
 use Rattle.ild_schema.specs.declared.def.Mark.{Mark}
 use Rattle.ild_schema.specs.declared.def.Mark.TheVariants as K
 use Rattle.ild_schema.specs.Hex.{hex_byte, bytes_of_hex}
-use Rattle.ild_text.specs.Prefix.{bytes_mark, IsBehind, IsPrefixed, AreApart, OnePrefixed, Passes, Strips}
+use Rattle.ild_text.specs.Prefix.{bytes_mark, IsBehind, IsPrefixed, AreApart, OnePrefixed, PassesDigits, Strips}
 
 -- no member before this place has a prefix with which the text begins
 abbrev pub NoneBefore : (Mark → Option (List ℕ)) → List Member → List ℕ → ℕ → Type 0
@@ -67,7 +67,7 @@ other_byte ds t b two some unlike r p =
     by (inl z) q e = absurd (omega (arith, ap length e))
     by (inr u) q e = u (ap (λ xs. get_or xs 0 0) e)
 
-pub passes : (ds t : List ℕ) (b : ℕ) → 2 ≤ length ds → hex_byte (get_or ds 0 0) (get_or ds 1 0) ≡ Some b → 0 < length t → get_or t 0 0 ≡ b → Passes ds t (drop 2 ds) (drop 1 t)
+pub passes : (ds t : List ℕ) (b : ℕ) → 2 ≤ length ds → hex_byte (get_or ds 0 0) (get_or ds 1 0) ≡ Some b → 0 < length t → get_or t 0 0 ≡ b → PassesDigits ds t (drop 2 ds) (drop 1 t)
 passes ds [] b two some one first = absurd (omega arith)
 passes ds (c ∷ t) b two some one first = record {
   fewer = omega (arith, length-drop 2 ds);
@@ -100,7 +100,7 @@ odd_behind (d ∷ e ∷ ds) t r few some p = absurd (omega arith)
 abbrev pub Same : List ℕ → List ℕ → List ℕ → List ℕ → Type 0
 Same ds t es u = (r : List ℕ) → (IsBehind (bytes_of_hex es) u r → IsBehind (bytes_of_hex ds) t r) × (IsBehind (bytes_of_hex ds) t r → IsBehind (bytes_of_hex es) u r)
 
-pub same_goes : (ds t es u fs v : List ℕ) → Same ds t es u → Passes es u fs v → Same ds t fs v
+pub same_goes : (ds t es u fs v : List ℕ) → Same ds t es u → PassesDigits es u fs v → Same ds t fs v
 same_goes ds t es u fs v s p r = (λ b. (s r).0 ((p.same r).0 b), λ b. (p.same r).1 ((s r).1 b))
 
 pub none_from_test : (n : ℕ) (b : Bool) → b ≡ nat_eq n 0 → b ≡ true → n ≡ 0

@@ -4,11 +4,11 @@ use Rattle.std.specs.Option.{option_and_then}
 use Rattle.ild_schema.specs.declared.def.Member.{Member}
 use Rattle.ild_schema.specs.declared.def.Mark.{Mark}
 use Rattle.ild_schema.specs.Hex.{bytes_of_hex}
-use Rattle.ild_schema.specs.Marks.{text_of}
+use Rattle.ild_schema.specs.Marks.{mark_text}
 
 -- the bytes that the text of a mark stands for, if it is hexadecimal
 abbrev pub bytes_mark : Mark → Option (List ℕ)
-bytes_mark mark = option_and_then bytes_of_hex (text_of mark)
+bytes_mark mark = option_and_then bytes_of_hex (mark_text mark)
 
 -- the text begins with the prefix, and this stands behind it
 pub record IsBehind (prefix : Option (List ℕ)) (text rest : List ℕ) : Type 0 where
@@ -44,6 +44,6 @@ OnePrefixed =
     (prefix_of : Mark → Option (List ℕ)) (members : List Member) (text : List ℕ) (i j : ℕ) (rest other : List ℕ) → AreApart prefix_of members → IsPrefixed prefix_of members text i rest → IsPrefixed prefix_of members text j other → (i ≡ j) × (rest ≡ other)
 
 -- digits and a text, and what is left of both: what stands behind the ones is what stands behind the others
-pub record Passes (digits text left rest : List ℕ) : Type 0 where
+pub record PassesDigits (digits text left rest : List ℕ) : Type 0 where
   pub fewer : length left < length digits
   pub same : (r : List ℕ) → (IsBehind (bytes_of_hex left) rest r → IsBehind (bytes_of_hex digits) text r) × (IsBehind (bytes_of_hex digits) text r → IsBehind (bytes_of_hex left) rest r)

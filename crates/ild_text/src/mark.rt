@@ -1,15 +1,15 @@
 //! What stands behind the prefix of one member.
 ghost use Rattle.std.specs.Prelude.{◌≡◌, ◌≤◌, List, MatchOption, length, option_map, ℕ};
 ghost use Rattle.ild_schema.specs.Hex.{bytes_of_hex};
-ghost use Rattle.ild_schema.specs.Marks.{text_of};
-ghost use Rattle.ild_text.specs.Prefix.{bytes_mark, IsBehind, Passes, Strips};
+ghost use Rattle.ild_schema.specs.Marks.{mark_text};
+ghost use Rattle.ild_text.specs.Prefix.{bytes_mark, IsBehind, PassesDigits, Strips};
 
 use crate::hex::hex_byte;
 use ild_schema::Mark;
 
 /// What stands behind the text of a mark.
 pub fn behind_text<'b>(text: &'b str, mark: &Mark) -> Option<&'b str>
-    ensures { Strips (text_of mark.now) text.now (option_map (λ rest. rest.now) result) }
+    ensures { Strips (mark_text mark.now) text.now (option_map (λ rest. rest.now) result) }
 {
     match mark {
         Mark::Text(prefix) => text.strip_prefix(prefix.as_str()),
@@ -20,7 +20,7 @@ pub fn behind_text<'b>(text: &'b str, mark: &Mark) -> Option<&'b str>
 /// One byte of a prefix is passed over: what stands behind it, and the digits that are left.
 fn pass<'b, 'd>(rest: &'b [u8], left: &'d [u8]) -> Option<(&'b [u8], &'d [u8])>
     requires { 2 ≤ length left.now }
-    ensures { MatchOption result ((r : List ℕ) → IsBehind (bytes_of_hex left.now) rest.now r → ⊥) (λ p. Passes left.now rest.now p.1.now p.0.now) }
+    ensures { MatchOption result ((r : List ℕ) → IsBehind (bytes_of_hex left.now) rest.now r → ⊥) (λ p. PassesDigits left.now rest.now p.1.now p.0.now) }
 {
     let byte = hex_byte(left[0], left[1])?;
     if rest.is_empty() || rest[0] != byte {

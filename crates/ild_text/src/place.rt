@@ -2,7 +2,7 @@
 ghost use Rattle.std.specs.Prelude.{◌≡◌, ◌<◌, ◌≤◌, ◌∷◌, List, ℕ, true, IfErr, IfOk, is_some, length, option_map, slice_get};
 ghost use Rattle.ild_schema.specs.Joins.{IsJoin, Overlap};
 ghost use Rattle.ild_text.specs.Cut.{cut, halves};
-ghost use Rattle.ild_text.specs.inside.Find.{Finds};
+ghost use Rattle.ild_text.specs.inside.Find.{FindsText};
 ghost use Rattle.ild_text.specs.Pairs.{are_keyed, entries};
 
 use crate::Split;
@@ -12,7 +12,7 @@ use memchr::memmem;
 fn next(text: &str, delim: &str, from: usize) -> Option<usize>
     requires within { from ≤ length text.now }
     requires some { 0 < length delim.now }
-    ensures { Finds delim.now text.now from result }
+    ensures { FindsText delim.now text.now from result }
 {
     let bytes = text.as_bytes();
     match memmem::find(&bytes[from..], delim.as_bytes()) {

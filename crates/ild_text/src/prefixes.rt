@@ -1,6 +1,6 @@
 //! The member of a union that stands behind its prefix.
 ghost use Rattle.std.specs.Prelude.{◌≤◌, length, option_map};
-ghost use Rattle.ild_schema.specs.Marks.{text_of};
+ghost use Rattle.ild_schema.specs.Marks.{mark_text};
 ghost use Rattle.ild_text.specs.Prefix.{bytes_mark, IsFirstPrefixed};
 
 use crate::mark::{behind_bytes, behind_text};
@@ -9,7 +9,7 @@ use ild_schema::UnionDef;
 /// The first member with whose text the text begins, and what stands behind it.
 pub fn prefix<'b>(text: &'b str, def: &UnionDef) -> Option<(u32, &'b str)>
     requires { length def.now.members ≤ 1024 }
-    ensures { IsFirstPrefixed text_of def.now.members text.now (option_map (λ r. (r.0, r.1.now)) result) }
+    ensures { IsFirstPrefixed mark_text def.now.members text.now (option_map (λ r. (r.0, r.1.now)) result) }
 {
     let members = def.members.as_slice();
     for n in 0..members.len() {

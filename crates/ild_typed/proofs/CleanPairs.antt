@@ -10,7 +10,7 @@ use Rattle.ild_data.proofs.Lists.{items_list-items_of}
 use Rattle.ild_schema.specs.declared.def.KindWord.TheVariants as K
 use Rattle.ild_schema.specs.declared.def.Field.{Field}
 use Rattle.ild_schema.specs.declared.def.StructForm.TheVariants as S
-use Rattle.ild_typed.specs.Kinds.{kind_of}
+use Rattle.ild_typed.specs.Kinds.{kind_word_of}
 use Rattle.ild_schema.specs.DataKinds.{same_kind}
 use Rattle.ild_typed.specs.Fields.{are_absent, tuple_items}
 use Rattle.ild_typed.specs.Strings.{pair_data, listpairs}
@@ -91,7 +91,7 @@ as_pairs (T.item d ds) p q =
     items_in_list (T.list xs) = xs
     items_in_list c = T.no_items
 
-pub pairs_of_data : (t : Data) → same_kind K.List (kind_of t) ≡ true → has_odd_pair t ≡ false → has_odd_count t ≡ false → PairsOf t
+pub pairs_of_data : (t : Data) → same_kind K.List (kind_word_of t) ≡ true → has_odd_pair t ≡ false → has_odd_count t ≡ false → PairsOf t
 pairs_of_data (T.list ds) k p q = as_pairs ds p q
 pairs_of_data t k p q = absurd cc
 

@@ -11,7 +11,7 @@ use Rattle.ild_schema.specs.declared.def.StructForm.{StructForm}
 use Rattle.ild_schema.specs.declared.def.StructForm.TheVariants as S
 use Rattle.ild_schema.specs.declared.def.Field.{Field}
 use Rattle.ild_typed.specs.Texts.{join, join_pairs}
-use Rattle.ild_typed.specs.Kinds.{kind_of}
+use Rattle.ild_typed.specs.Kinds.{kind_word_of}
 use Rattle.ild_schema.specs.DataKinds.{same_kind, struct_kind}
 use Rattle.ild_typed.specs.Fields.{field_entries, tuple_items, all_items}
 use Rattle.ild_typed.specs.Strings.{text_in, texts_in, text_pairs, in_key_order, map_data, listpairs, stringpairs, stringjoin, cons_both}
@@ -108,7 +108,7 @@ pub record StringOf (inner entry : List ℕ) (t : Data) : Type 0 where
   pub there : stringpairs inner entry entries ≡ Some t
   pub shown : split_entries inner entry t ≡ Some entries
 
-pub string_of_data : (inner entry : List ℕ) (t : Data) → same_kind K.Text (kind_of t) ≡ true → is_unsplit inner entry t ≡ false → StringOf inner entry t
+pub string_of_data : (inner entry : List ℕ) (t : Data) → same_kind K.Text (kind_word_of t) ≡ true → is_unsplit inner entry t ≡ false → StringOf inner entry t
 string_of_data inner entry (T.text s) k u =
     let split : is_split_pairs inner entry s ≡ true = not_false (is_split_pairs inner entry s) u in
     record {
@@ -229,7 +229,7 @@ pub record StructFor (form : StructForm) (fs : List Field) (t : Data) : Type 0 w
   pub fields : List (Option Data)
   pub there : struct_form form fs fields ≡ Some t
 
-pub struct_for : (form : StructForm) (fs : List Field) → ClearStruct form fs → HasDelims form fs → (t : Data) → KeysRise t → same_kind (struct_kind form) (kind_of t) ≡ true
+pub struct_for : (form : StructForm) (fs : List Field) → ClearStruct form fs → HasDelims form fs → (t : Data) → KeysRise t → same_kind (struct_kind form) (kind_word_of t) ≡ true
     → StructClean form fs t → StructFor form fs t
 struct_for S.Map fs clear delims (T.map ms) up k c =
     let x = map_for fs (T.members_list ms) up (record { known = c.name; whole = c.missing; once = c.repeat; needed = c.implicit }) in

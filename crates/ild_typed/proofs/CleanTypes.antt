@@ -19,7 +19,7 @@ use Rattle.ild_schema.specs.declared.def.EnumMember.{EnumMember}
 use Rattle.ild_schema.specs.declared.def.KindWord.TheVariants as K
 use Rattle.ild_typed.specs.Layer as L
 use Rattle.ild_typed.specs.Layer.{Layer, as_list, as_map, as_struct, as_union, as_enum, as_unit}
-use Rattle.ild_typed.specs.Kinds.{kind_of}
+use Rattle.ild_typed.specs.Kinds.{kind_word_of}
 use Rattle.ild_schema.specs.DataKinds.{same_kind, has_kind, map_kind, unit_kind}
 use Rattle.ild_schema.specs.Decimal.{decimal_of}
 use Rattle.ild_typed.specs.Strings.{listpairs, stringpairs}
@@ -43,8 +43,8 @@ use Rattle.ild_typed.proofs.CleanUnions.{union_clean, union_for}
 -- ---- data of a layer
 
 -- the kind is the type's, and nothing else is asked
-its_kind : (d : TypeDef) (t : Data) (c : Bool) → has_kind d (kind_of t) ≡ true → c ≡ false → (not (has_kind d (kind_of t)) || c) ≡ false
-its_kind d t c h k = kind_fine (has_kind d (kind_of t)) c h k
+its_kind : (d : TypeDef) (t : Data) (c : Bool) → has_kind d (kind_word_of t) ≡ true → c ≡ false → (not (has_kind d (kind_word_of t)) || c) ≡ false
+its_kind d t c h k = kind_fine (has_kind d (kind_word_of t)) c h k
 
 unit_clean : (form : UnitForm) → Clean (D.Unit form) (unit_data form)
 unit_clean U.Null = record {
@@ -276,29 +276,29 @@ pub record LayerFor (d : TypeDef) (t : Data) : Type 0 where
   pub layer : Layer Data
   pub there : composed alone d layer ≡ Some t
 
-kind_of_clean : (d : TypeDef) (t : Data) → Clean d t → has_kind d (kind_of t) ≡ true
-kind_of_clean d t c = not_false (has_kind d (kind_of t)) (or_false (not (has_kind d (kind_of t))) (is_kind_why d t) c.kind).0
+kind_of_clean : (d : TypeDef) (t : Data) → Clean d t → has_kind d (kind_word_of t) ≡ true
+kind_of_clean d t c = not_false (has_kind d (kind_word_of t)) (or_false (not (has_kind d (kind_word_of t))) (is_kind_why d t) c.kind).0
 
 own_kind : (d : TypeDef) (t : Data) → Clean d t → is_kind_why d t ≡ false
-own_kind d t c = (or_false (not (has_kind d (kind_of t))) (is_kind_why d t) c.kind).1
+own_kind d t c = (or_false (not (has_kind d (kind_word_of t))) (is_kind_why d t) c.kind).1
 
-bool_for : (t : Data) → same_kind K.Bool (kind_of t) ≡ true → LayerFor D.Bool t
+bool_for : (t : Data) → same_kind K.Bool (kind_word_of t) ≡ true → LayerFor D.Bool t
 bool_for (T.boolean b) k = record { layer = L.boolean b; there = refl }
 bool_for t k = absurd cc
 
-text_for : (t : Data) → same_kind K.Text (kind_of t) ≡ true → LayerFor D.Text t
+text_for : (t : Data) → same_kind K.Text (kind_word_of t) ≡ true → LayerFor D.Text t
 text_for (T.text s) k = record { layer = L.text s; there = refl }
 text_for t k = absurd cc
 
-bytes_for : (t : Data) → same_kind K.Bytes (kind_of t) ≡ true → LayerFor D.Bytes t
+bytes_for : (t : Data) → same_kind K.Bytes (kind_word_of t) ≡ true → LayerFor D.Bytes t
 bytes_for (T.bytes s) k = record { layer = L.bytes s; there = refl }
 bytes_for t k = absurd cc
 
-int_for : (t : Data) → same_kind K.Int (kind_of t) ≡ true → LayerFor D.Int t
+int_for : (t : Data) → same_kind K.Int (kind_word_of t) ≡ true → LayerFor D.Int t
 int_for (T.integer n) k = record { layer = L.integer n; there = refl }
 int_for t k = absurd cc
 
-any_for : (t : Data) → not (same_kind K.Null (kind_of t)) ≡ true → LayerFor D.Any t
+any_for : (t : Data) → not (same_kind K.Null (kind_word_of t)) ≡ true → LayerFor D.Any t
 any_for T.null k = absurd cc
 any_for (T.boolean b) k = record { layer = L.any (T.boolean b); there = refl }
 any_for (T.integer n) k = record { layer = L.any (T.integer n); there = refl }
@@ -308,7 +308,7 @@ any_for (T.list ds) k = record { layer = L.any (T.list ds); there = refl }
 any_for (T.map ms) k = record { layer = L.any (T.map ms); there = refl }
 any_for (T.link s) k = record { layer = L.any (T.link s); there = refl }
 
-unit_for : (form : UnitForm) (t : Data) → same_kind (unit_kind form) (kind_of t) ≡ true → unit_count form t ≡ false → unit_member form t ≡ false → LayerFor (D.Unit form) t
+unit_for : (form : UnitForm) (t : Data) → same_kind (unit_kind form) (kind_word_of t) ≡ true → unit_count form t ≡ false → unit_member form t ≡ false → LayerFor (D.Unit form) t
 unit_for U.Null T.null k n m = record { layer = L.unit; there = refl }
 unit_for U.Null t k n m = absurd cc
 unit_for U.True (T.boolean true) k n m = record { layer = L.unit; there = refl }
@@ -326,7 +326,7 @@ value_is (Some (T.text a)) (T.text b) h = ap (λ s. Some (T.text s)) (text_same 
 value_is (Some (T.integer a)) (T.integer b) h = ap (λ n. Some (T.integer n)) (int_same a b h)
 value_is o t h = absurd cc
 
-map_for : (form : MapForm) (t : Data) → same_kind (map_kind form) (kind_of t) ≡ true → MapClean form t → (l : Layer Data) × (map_form alone form l ≡ Some t)
+map_for : (form : MapForm) (t : Data) → same_kind (map_kind form) (kind_word_of t) ≡ true → MapClean form t → (l : Layer Data) × (map_form alone form l ≡ Some t)
 map_for MF.Map (T.map ms) k c = (L.map (T.members_list ms), ap (λ xs. Some (T.map xs)) (members_of-members_list ms))
 map_for MF.Map t k c = absurd cc
 map_for MF.ListPairs t k c = let x = pairs_of_data t k c.kind c.count in (L.map x.entries, ap Some (sym x.is))
@@ -341,12 +341,12 @@ layer_for D.Bytes clear delims t up c = bytes_for t (kind_of_clean D.Bytes t c)
 layer_for D.Int clear delims t up c = int_for t (kind_of_clean D.Int t c)
 layer_for D.Any clear delims t up c = any_for t (kind_of_clean D.Any t c)
 layer_for (D.Link target) clear delims t up c = by t (kind_of_clean (D.Link target) t c) where
-  by : (u : Data) → same_kind K.Link (kind_of u) ≡ true → LayerFor (D.Link target) u
+  by : (u : Data) → same_kind K.Link (kind_word_of u) ≡ true → LayerFor (D.Link target) u
   by (T.link s) k = record { layer = L.link s; there = refl }
   by u k = absurd cc
 layer_for (D.Unit form) clear delims t up c = unit_for form t (kind_of_clean (D.Unit form) t c) c.count c.member
 layer_for (D.List elem at) clear delims t up c = by t (kind_of_clean (D.List elem at) t c) where
-  by : (u : Data) → same_kind K.List (kind_of u) ≡ true → LayerFor (D.List elem at) u
+  by : (u : Data) → same_kind K.List (kind_word_of u) ≡ true → LayerFor (D.List elem at) u
   by (T.list ds) k = record { layer = L.list (T.items_list ds); there = ap (λ xs. Some (T.list xs)) (items_of-items_list ds) }
   by u k = absurd cc
 layer_for (D.Map key key_at value at form) clear delims t up c =

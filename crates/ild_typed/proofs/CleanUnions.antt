@@ -15,9 +15,9 @@ use Rattle.ild_schema.specs.declared.def.UnionForm.{UnionForm}
 use Rattle.ild_schema.specs.declared.def.UnionForm.TheVariants as UF
 use Rattle.ild_schema.specs.declared.def.Member.{Member}
 use Rattle.ild_schema.specs.Prefixes.{begins}
-use Rattle.ild_typed.specs.Kinds.{kind_of}
+use Rattle.ild_typed.specs.Kinds.{kind_word_of}
 use Rattle.ild_schema.specs.DataKinds.{same_kind, is_marked, union_has}
-use Rattle.ild_schema.specs.Marks.{text_of as mark_text, kind_of as mark_kind}
+use Rattle.ild_schema.specs.Marks.{mark_text, mark_kind}
 use Rattle.ild_schema.specs.Hex.{bytes_of_hex}
 use Rattle.ild_typed.specs.Strings.{text_in, bytes_in, members_in, map_data}
 use Rattle.ild_typed.specs.Composed.{inlined, marked_form, member_form, union_form}
@@ -175,18 +175,18 @@ marked_by ms k e =
     let y = passed (λ s. same_text s k) (mark_text x.one.mark) x.passes in
     record { place = x.place; one = x.one; there = x.there; text = y.there ∙ ap Some (text_same y.one k (sym y.passes)) }
 
-kinded_for : (ms : List Member) (t : Data) → union_has UF.Kinded ms (kind_of t) ≡ true → UnionFor UF.Kinded ms t
+kinded_for : (ms : List Member) (t : Data) → union_has UF.Kinded ms (kind_word_of t) ≡ true → UnionFor UF.Kinded ms t
 kinded_for ms t e =
-    let x = found (λ m. is_marked (kind_of t) (mark_kind m.mark)) ms e in
+    let x = found (λ m. is_marked (kind_word_of t) (mark_kind m.mark)) ms e in
     by x (mark_kind x.one.mark) refl x.passes
   where
-    by : (x : Found (λ (m : Member). is_marked (kind_of t) (mark_kind m.mark)) ms) (o : Option KindWord) → mark_kind x.one.mark ≡ o → is_marked (kind_of t) o ≡ true → UnionFor UF.Kinded ms t
+    by : (x : Found (λ (m : Member). is_marked (kind_word_of t) (mark_kind m.mark)) ms) (o : Option KindWord) → mark_kind x.one.mark ≡ o → is_marked (kind_word_of t) o ≡ true → UnionFor UF.Kinded ms t
     by x None is h = absurd cc
     by x (Some k) is h = record {
       member = x.place;
       part = t;
       there = ap (option_and_then (member_form UF.Kinded t)) x.there
-          ∙ ap (option_and_then (λ (l : KindWord). cond (same_kind l (kind_of t)) (Some t) None)) is ∙ ap (λ b. cond b (Some t) None) h;
+          ∙ ap (option_and_then (λ (l : KindWord). cond (same_kind l (kind_word_of t)) (Some t) None)) is ∙ ap (λ b. cond b (Some t) None) h;
     }
 
 record Begun (p s : List ℕ) : Type 0 where
@@ -339,7 +339,7 @@ envelope_for key content ms es up c =
         let two = one_of_two key content q (T.members_list es) c.name (among_value q (T.members_list es) ∙ ap is_some h) in
         absurd (never (sym two ∙ false_or (same_text key q) (same_text content q) (flip q key is) (flip q content also)))
 
-pub union_for : (form : UnionForm) (ms : List Member) (t : Data) → KeysRise t → union_has form ms (kind_of t) ≡ true → UnionClean form ms t → UnionFor form ms t
+pub union_for : (form : UnionForm) (ms : List Member) (t : Data) → KeysRise t → union_has form ms (kind_word_of t) ≡ true → UnionClean form ms t → UnionFor form ms t
 union_for UF.Keyed ms (T.map es) up k c = keyed_for ms es c
 union_for UF.Keyed ms t up k c = absurd cc
 union_for UF.Kinded ms t up k c = kinded_for ms t k

@@ -26,9 +26,9 @@ use Rattle.ild_typed.specs.Layer as L
 use Rattle.ild_typed.specs.Layer.{as_hamt, Layer, as_map}
 use Rattle.ild_typed.specs.Texts.{join, join_pairs}
 use Rattle.ild_typed.specs.Fields.{is_implicit, is_scalar, entries_of, field_entries, tuple_items, all_items}
-use Rattle.ild_schema.specs.Marks.{field_text, text_of as mark_text, kind_of as mark_kind}
+use Rattle.ild_schema.specs.Marks.{field_text, mark_text, mark_kind}
 use Rattle.ild_typed.specs.Strings.{text_in, bytes_in, members_in, texts_in, text_pairs, in_key_order, map_data, listpairs, stringpairs, stringjoin, cons_both}
-use Rattle.ild_typed.specs.Kinds.{kind_of}
+use Rattle.ild_typed.specs.Kinds.{kind_word_of}
 use Rattle.ild_schema.specs.DataKinds.{same_kind}
 use Rattle.ild_schema.specs.Hex.{bytes_of_hex}
 use Rattle.ild_schema.specs.Slots.{form_of}
@@ -153,8 +153,8 @@ marked_flat (UF.Inline key) d name t e flat =
 
 member_flat : (form : UnionForm) (d : Data) (m : Member) (t : Data) → member_form form d m ≡ Some t → IsFlat t → IsFlat d
 member_flat UF.Kinded d m t e flat =
-    let x = then_from (λ k. cond (same_kind k (kind_of d)) (Some d) None) (mark_kind m.mark) t e in
-    subst IsFlat (sym (true_from (same_kind x.item (kind_of d)) d t x.made).1) flat
+    let x = then_from (λ k. cond (same_kind k (kind_word_of d)) (Some d) None) (mark_kind m.mark) t e in
+    subst IsFlat (sym (true_from (same_kind x.item (kind_word_of d)) d t x.made).1) flat
 member_flat UF.Keyed d m t e flat = let x = then_from (marked_form UF.Keyed d) (mark_text m.mark) t e in marked_flat UF.Keyed d x.item t x.made flat
 member_flat UF.StringPrefix d m t e flat = let x = then_from (marked_form UF.StringPrefix d) (mark_text m.mark) t e in marked_flat UF.StringPrefix d x.item t x.made flat
 member_flat UF.BytesPrefix d m t e flat = let x = then_from (marked_form UF.BytesPrefix d) (mark_text m.mark) t e in marked_flat UF.BytesPrefix d x.item t x.made flat

@@ -35,7 +35,7 @@ use Rattle.ild_typed.specs.Fits.{FitsPast, ValueFits}
 use Rattle.ild_typed.specs.Hamt.{alone, whole, root_map}
 use Rattle.ild_typed.specs.Layer as L
 use Rattle.ild_typed.specs.Layer.{Layer, as_map}
-use Rattle.ild_typed.specs.Layers.{Shows, FieldsFit, LayerFits}
+use Rattle.ild_typed.specs.Layers.{RepresentsSome, FieldsFit, LayerFits}
 use Rattle.ild_typed.specs.Levels.{levels_of}
 use Rattle.ild_typed.specs.Node.{IsSlot, IsRoot, entries_in}
 use Rattle.ild_typed.specs.Represented.{represented, represented_values, represented_pairs, represented_fields}
@@ -155,22 +155,22 @@ module _ (h : List ℕ → List ℕ) (rows : List Row) where
 
   module _ (room : ℕ) (below : ℕ → Slot → Value → Type 0) (s : Slot) (t : Data) where
     leaf : (v : Value) (d : TypeDef) (l m : Layer Data) → ValueFits rows room below s v → form_of rows s ≡ Some d → m ≡ l → as_map m ≡ None → layer_data alone rows (Some d) v ≡ Some l
-        → composed (whole h) d l ≡ Some t → Shows (ValueFits rows room below) rows s t
+        → composed (whole h) d l ≡ Some t → RepresentsSome (ValueFits rows room below) rows s t
     leaf v d l m f is same none there made = (v, f, by_layer alone rows s d v l is there ∙ alone_too d l t (ap as_map (sym same) ∙ none) made)
 
-    null_front : (v : Value) → v ≡ V.null → s.nullable ≡ true → t ≡ T.null → Shows (ValueFits rows room below) rows s t
+    null_front : (v : Value) → v ≡ V.null → s.nullable ≡ true → t ≡ T.null → RepresentsSome (ValueFits rows room below) rows s t
     null_front v a b c = (V.null, b, ap (λ n. cond n (Some T.null) None) b ∙ ap Some (sym c))
 
   -- ---- the parts
 
-  module _ (fits : Slot → Value → Type 0) (later : (s : Slot) (v : Value) (d : Data) → fits s v → represented (whole h) rows s v ≡ Some d → Shows fits rows s d) where
+  module _ (fits : Slot → Value → Type 0) (later : (s : Slot) (v : Value) (d : Data) → fits s v → represented (whole h) rows s v ≡ Some d → RepresentsSome fits rows s d) where
     elements_front : (s : Slot) (vs : Values) (ds : List Data) → AllByRecursion (fits s) (values_list vs) → represented_values (whole h) rows s vs ≡ Some ds → Elements rows fits s ds
     elements_front s V.no_values ds f e = subst (Elements rows fits s) (same_Some [] ds e) tt
     elements_front s (V.value v vs) ds f e =
         let b = both_from (represented (whole h) rows s v) (represented_values (whole h) rows s vs) ds e in
         subst (Elements rows fits s) b.all (later s v b.item f.0 b.first, elements_front s vs b.items f.1 b.rest)
 
-    entries_front : (key : TypeNo) (value : Slot) (ps : Pairs) (ds : List (List ℕ × Data)) → AllByRecursion (λ p. IsUtf8 p.0 × Shows fits rows (plainly key) (T.text p.0) × fits value p.1) (pairs_list ps)
+    entries_front : (key : TypeNo) (value : Slot) (ps : Pairs) (ds : List (List ℕ × Data)) → AllByRecursion (λ p. IsUtf8 p.0 × RepresentsSome fits rows (plainly key) (T.text p.0) × fits value p.1) (pairs_list ps)
         → represented_pairs (whole h) rows value ps ≡ Some ds → AllByRecursion (Entry rows fits key value) ds × SameKeys (pairs_list ps) ds
     entries_front key value V.no_pairs ds f e = subst (λ xs. AllByRecursion (Entry rows fits key value) xs × SameKeys (pairs_list V.no_pairs) xs) (same_Some [] ds e) (tt, tt)
     entries_front key value (V.pair k v ps) ds f e =
@@ -196,27 +196,27 @@ module _ (h : List ℕ → List ℕ) (rows : List Row) where
         subst (Fields rows fits (g ∷ fs)) (ap (λ o. o ∷ b.items) (same_Some (Some x.item) b.item x.made) ∙ b.all) own
 
     entries_both : (key : TypeNo) (value : Slot) (ds : List (List ℕ × Data)) → AllByRecursion (Entry rows fits key value) ds
-        → AllByRecursion (Both (λ k. Shows fits rows (plainly key) (T.text k)) (Shows fits rows value)) ds
+        → AllByRecursion (Both (λ k. RepresentsSome fits rows (plainly key) (T.text k)) (RepresentsSome fits rows value)) ds
     entries_both key value [] all = tt
     entries_both key value (e ∷ es) all = (((all.0.0, all.0.1), all.0.2), entries_both key value es all.1)
 
-    entries_shown : (key : TypeNo) (value : Slot) (ds : List (List ℕ × Data)) → AllByRecursion (Both (λ k. Shows fits rows (plainly key) (T.text k)) (Shows fits rows value)) ds
-        → AllByRecursion (λ e. Shows fits rows (plainly key) (T.text e.0) × Shows fits rows value e.1) ds
+    entries_shown : (key : TypeNo) (value : Slot) (ds : List (List ℕ × Data)) → AllByRecursion (Both (λ k. RepresentsSome fits rows (plainly key) (T.text k)) (RepresentsSome fits rows value)) ds
+        → AllByRecursion (λ e. RepresentsSome fits rows (plainly key) (T.text e.0) × RepresentsSome fits rows value e.1) ds
     entries_shown key value [] all = tt
     entries_shown key value (e ∷ es) all = ((all.0.0.1, all.0.1), entries_shown key value es all.1)
 
 -- ---- a value in a room
 
 module _ (h : List ℕ → List ℕ) (rows : List Row) (clear : IsClear rows) (room : ℕ)
-    (later : (o : ℕ) (s : Slot) (v : Value) (d : Data) → FitsPast rows room o s v → represented (whole h) rows s v ≡ Some d → Shows (FitsPast rows room o) rows s d)
+    (later : (o : ℕ) (s : Slot) (v : Value) (d : Data) → FitsPast rows room o s v → represented (whole h) rows s v ≡ Some d → RepresentsSome (FitsPast rows room o) rows s d)
     (s : Slot) (t : Data) where
   abbrev Answer : Type 0
-  Answer = Shows (FitsPast rows (suc room) zero) rows s t
+  Answer = RepresentsSome (FitsPast rows (suc room) zero) rows s t
 
   list_front : (d : TypeDef) (vs : Values) (ds : List Data) → form_of rows s ≡ Some d → LayerFits (FitsPast rows room (levels_of d (V.list vs) - 1)) rows d (L.list (values_list vs))
       → values_data (whole h) rows (element_of (Some d)) vs ≡ Some ds → composed (whole h) d (L.list ds) ≡ Some t → Answer
   list_front (D.List elem place) vs ds is f there made =
-      subst (λ u. Shows (FitsPast rows (suc room) zero) rows s u) (same_Some (T.list (T.items_of ds)) t made)
+      subst (λ u. RepresentsSome (FitsPast rows (suc room) zero) rows s u) (same_Some (T.list (T.items_of ds)) t made)
       (list_shows rows clear room s elem place ds is (elements_front h rows (FitsPast rows room zero) (later zero) elem vs ds f there))
   list_front (D.Map key key_at value place form) vs ds is f there made =
       absurd (no_type_map (FitsPast rows room (levels_of (D.Map key key_at value place form) (V.list vs) - 1)) rows (D.Map key key_at value place form) (L.list (values_list vs)) refl refl f key key_at value place form refl)
@@ -263,11 +263,11 @@ module _ (h : List ℕ → List ℕ) (rows : List Row) (clear : IsClear rows) (r
     by (MF.Hamt p) is enough f there made =
         let fits = map_fitted rows (FitsPast rows room 4) key value (MF.Hamt p) (pairs_list ps) f in
         let x = entries_front h rows (FitsPast rows room 4) (later 4) key value ps ds fits.1 there in
-        let root = root_over (λ k. Shows (FitsPast rows room 4) rows (plainly key) (T.text k)) (Shows (FitsPast rows room 4) rows value) p h ds t
+        let root = root_over (λ k. RepresentsSome (FitsPast rows room 4) rows (plainly key) (T.text k)) (RepresentsSome (FitsPast rows room 4) rows value) p h ds t
         (entries_both h rows (FitsPast rows room 4) (later 4) key value ds x.0) made in
         let shape : T.Members = T.members_of ((codes "hamt", node_data root.slots) ∷ (codes "hashAlg", T.integer (pos 18)) ∷ (codes "bucketSize", T.integer (pos p.bucket)) ∷ []) in
         let own : IsRoot p root.slots (T.map shape) = subst (IsRoot p root.slots) root.root.tree root.root in
-        subst (λ u. Shows (FitsPast rows (suc room) zero) rows s u) (sym root.root.tree)
+        subst (λ u. RepresentsSome (FitsPast rows (suc room) zero) rows s u) (sym root.root.tree)
         (hamt_shows rows clear room s p key key_at value place shape is enough
         (root.slots, own, entries_shown h rows (FitsPast rows room 4) (later 4) key value (entries_in root.slots) root.all))
     by MF.Map is enough f there made = flat key key_at value place MF.Map ps ds is enough f there made
@@ -312,10 +312,10 @@ module _ (h : List ℕ → List ℕ) (rows : List Row) (s : Slot) (t : Data) whe
   never : (n : ℕ) → 1 ≤ n → n ≤ 0 → ⊥
   never n a b = omega (arith, a, b)
 
-  at_zero : (v : Value) → ValueFits rows zero (λ over u w. ⊥) s v → represented (whole h) rows s v ≡ Some t → Shows (FitsPast rows zero zero) rows s t
+  at_zero : (v : Value) → ValueFits rows zero (λ over u w. ⊥) s v → represented (whole h) rows s v ≡ Some t → RepresentsSome (FitsPast rows zero zero) rows s t
   unfolding FitsPast
   at_zero v f e = by v f (way_of (whole h) rows s v t e) where
-    by : (v : Value) → ValueFits rows zero (λ over u w. ⊥) s v → Way (whole h) rows s v t → Shows (FitsPast rows zero zero) rows s t
+    by : (v : Value) → ValueFits rows zero (λ over u w. ⊥) s v → Way (whole h) rows s v t → RepresentsSome (FitsPast rows zero zero) rows s t
     by v f (as_null a b c) = null_front h rows zero (λ over u w. ⊥) s t v a b c
     by V.null f (as_layer d l is there made) = absurd (none-some l there)
     by (V.list vs) f (as_layer d l is there made) =
@@ -341,7 +341,7 @@ module _ (h : List ℕ → List ℕ) (rows : List Row) (s : Slot) (t : Data) whe
     by V.unit f (as_layer d l is there made) = leaf h rows zero (λ over u w. ⊥) s t V.unit d l L.unit f is (same_Some L.unit l there) refl there made
 
 past_front : (h : List ℕ → List ℕ) (rows : List Row) → IsClear rows → (room over : ℕ) (s : Slot) (v : Value) (d : Data) → FitsPast rows room over s v → represented (whole h) rows s v ≡ Some d
-    → Shows (FitsPast rows room over) rows s d
+    → RepresentsSome (FitsPast rows room over) rows s d
 unfolding FitsPast
 past_front h rows clear zero zero s v d f e = at_zero h rows s d v f e
 past_front h rows clear zero (suc over) s v d f e = absurd f

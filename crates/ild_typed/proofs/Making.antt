@@ -29,9 +29,9 @@ use Rattle.ild_typed.specs.Layer.{Layer, as_struct}
 use Rattle.ild_schema.specs.Slots.{plainly}
 use Rattle.ild_typed.specs.Texts.{join, join_pairs}
 use Rattle.ild_typed.specs.Fields.{is_implicit, entries_of, field_entries, are_absent, tuple_items, all_items}
-use Rattle.ild_schema.specs.Marks.{field_text, text_of as mark_text, kind_of as mark_kind}
+use Rattle.ild_schema.specs.Marks.{field_text, mark_text, mark_kind}
 use Rattle.ild_typed.specs.Strings.{text_in, bytes_in, members_in, texts_in, text_pairs, cons_both, in_key_order, map_data, listpairs, stringpairs, stringjoin}
-use Rattle.ild_typed.specs.Kinds.{kind_of}
+use Rattle.ild_typed.specs.Kinds.{kind_word_of}
 use Rattle.ild_schema.specs.DataKinds.{kind_in, same_kind, slot_has}
 use Rattle.ild_schema.specs.Hex.{bytes_of_hex}
 use Rattle.ild_schema.specs.Decimal.{decimal_of}
@@ -76,21 +76,21 @@ not_refused f o a is e = not_none (f a) (sym (ap (is_refused f) is) ∙ e)
 
 -- ---- the kinds of data
 
-whole_kind : (h : List ℕ → List ℕ) (p : HamtShape) (l : Layer Data) (t : Data) → whole h p l ≡ Some t → kind_of t ≡ K.Map
+whole_kind : (h : List ℕ → List ℕ) (p : HamtShape) (l : Layer Data) (t : Data) → whole h p l ≡ Some t → kind_word_of t ≡ K.Map
 whole_kind h = (whole_exact h (λ n. ⊥) (λ n m a b e. absurd a)).kind
 
 module _ (h : List ℕ → List ℕ) (rows : List Row) where
-  pub kind_there : (s : Slot) (v : Value) (t : Data) → s.nullable ≡ false → represented (whole h) rows s v ≡ Some t → slot_has rows s (kind_of t) ≡ true
+  pub kind_there : (s : Slot) (v : Value) (t : Data) → s.nullable ≡ false → represented (whole h) rows s v ≡ Some t → slot_has rows s (kind_word_of t) ≡ true
   kind_there s v t plain e = by (way_of (whole h) rows s v t e) where
-    by : Way (whole h) rows s v t → slot_has rows s (kind_of t) ≡ true
+    by : Way (whole h) rows s v t → slot_has rows s (kind_word_of t) ≡ true
     by (as_null v_null nullable is_null) = let k : false ≡ true = sym plain ∙ nullable in absurd cc
-    by (as_layer d l is there made) = ap (λ o. kind_in o (kind_of t)) is ∙ composed_kind (whole h) (whole_kind h) d l t made
+    by (as_layer d l is there made) = ap (λ o. kind_in o (kind_word_of t)) is ∙ composed_kind (whole h) (whole_kind h) d l t made
 
 pub record TextData (d : Data) : Type 0 where
   pub text : List ℕ
   pub is : text_in d ≡ Some text
 
-text_of_kind : (d : Data) → kind_of d ≡ K.Text → TextData d
+text_of_kind : (d : Data) → kind_word_of d ≡ K.Text → TextData d
 text_of_kind (T.text s) e = record { text = s; is = refl }
 text_of_kind T.null e = absurd cc
 text_of_kind (T.boolean b) e = absurd cc
@@ -100,7 +100,7 @@ text_of_kind (T.list ds) e = absurd cc
 text_of_kind (T.map ms) e = absurd cc
 text_of_kind (T.link s) e = absurd cc
 
-bytes_of_kind : (d : Data) → kind_of d ≡ K.Bytes → There (bytes_in d)
+bytes_of_kind : (d : Data) → kind_word_of d ≡ K.Bytes → There (bytes_in d)
 bytes_of_kind (T.bytes s) e = record { item = s; is = refl }
 bytes_of_kind T.null e = absurd cc
 bytes_of_kind (T.boolean b) e = absurd cc
@@ -121,7 +121,7 @@ itself K.Map = refl
 itself K.Link = refl
 
 pub text_slot : (h : List ℕ → List ℕ) (rows : List Row) (s : Slot) (v : Value) (t : Data) → IsTextSlot rows s → represented (whole h) rows s v ≡ Some t → TextData t
-text_slot h rows s v t text e = text_of_kind t (text.only (kind_of t) (kind_there h rows s v t text.plain e))
+text_slot h rows s v t text e = text_of_kind t (text.only (kind_word_of t) (kind_there h rows s v t text.plain e))
 
 -- ---- texts in texts
 
@@ -279,14 +279,14 @@ text_marked form d m s e x = there_then (marked_form form d) (mark_text m.mark) 
 pub member_there : (h : List ℕ → List ℕ) (rows : List Row) (form : UnionForm) (m : Member) (v : Value) (t : Data) → MadeMember rows form m → represented (whole h) rows (plainly m.ty) v ≡ Some t → There (member_form form t m)
 member_there h rows UF.Keyed m v t made e = text_marked UF.Keyed t m made.0 made.1 (record { item = map_data ((made.0, t) ∷ []); is = refl })
 member_there h rows UF.Kinded m v t made e =
-    let k : kind_of t ≡ made.0 = made.2 (kind_of t) (kind_there h rows (plainly m.ty) v t refl e) in
-    there_then (λ l. cond (same_kind l (kind_of t)) (Some t) None) (mark_kind m.mark) (record { item = made.0; is = made.1 })
-    (there_if (same_kind made.0 (kind_of t)) (Some t) (ap (same_kind made.0) k ∙ itself made.0) (record { item = t; is = refl }))
+    let k : kind_word_of t ≡ made.0 = made.2 (kind_word_of t) (kind_there h rows (plainly m.ty) v t refl e) in
+    there_then (λ l. cond (same_kind l (kind_word_of t)) (Some t) None) (mark_kind m.mark) (record { item = made.0; is = made.1 })
+    (there_if (same_kind made.0 (kind_word_of t)) (Some t) (ap (same_kind made.0) k ∙ itself made.0) (record { item = t; is = refl }))
 member_there h rows UF.StringPrefix m v t made e =
-    let x = text_of_kind t (made.1 (kind_of t) (kind_there h rows (plainly m.ty) v t refl e)) in
+    let x = text_of_kind t (made.1 (kind_word_of t) (kind_there h rows (plainly m.ty) v t refl e)) in
     text_marked UF.StringPrefix t m made.0.0 made.0.1 (there_map (λ s. T.text (made.0.0 ++ s)) (text_in t) (record { item = x.text; is = x.is }))
 member_there h rows UF.BytesPrefix m v t made e =
-    let x = bytes_of_kind t (made.2 (kind_of t) (kind_there h rows (plainly m.ty) v t refl e)) in
+    let x = bytes_of_kind t (made.2 (kind_word_of t) (kind_there h rows (plainly m.ty) v t refl e)) in
     let y = then_from bytes_of_hex (mark_text m.mark) made.0 made.1 in
     text_marked UF.BytesPrefix t m y.item y.there
     (there_then (λ front. option_map (λ s. T.bytes (front ++ s)) (bytes_in t)) (bytes_of_hex y.item) (record { item = made.0; is = y.made }) (there_map (λ s. T.bytes (made.0 ++ s)) (bytes_in t) x))

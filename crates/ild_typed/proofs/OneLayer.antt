@@ -21,7 +21,7 @@ use Rattle.ild_schema.specs.Slots.{form_of, plainly}
 use Rattle.ild_typed.specs.Levels.{levels_of}
 use Rattle.ild_typed.specs.Node as N
 use Rattle.ild_typed.specs.Fits.{FormFits, ValueFits, FitsPast, Fits}
-use Rattle.ild_typed.specs.Layers.{layer_of, Shows, FieldsFit, EntriesFit, RootFits, MapFits, LayerFits}
+use Rattle.ild_typed.specs.Layers.{layer_of, RepresentsSome, FieldsFit, EntriesFit, RootFits, MapFits, LayerFits}
 use Rattle.ild_typed.proofs.Rooms.{all_more, layer_more, fits_more}
 use Rattle.ild_typed.specs.OfType.{OfType}
 
@@ -95,19 +95,19 @@ some_room Q P f None h = absurd h
 some_room Q P f (Some a) h = f a h
 
 module _ (rows : List Row) where
-  shows_more : (m n : ℕ) → m ≤ n → (s : Slot) (d : Data) → Shows (Fits rows m) rows s d → Shows (Fits rows n) rows s d
+  shows_more : (m n : ℕ) → m ≤ n → (s : Slot) (d : Data) → RepresentsSome (Fits rows m) rows s d → RepresentsSome (Fits rows n) rows s d
   shows_more m n le s d (v, fits, shows) = (v, fits_more rows m n le s v fits, shows)
 
-  shows_room : (s : Slot) (d : Data) → Shows (OfType rows) rows s d → (r : ℕ) × Shows (Fits rows r) rows s d
+  shows_room : (s : Slot) (d : Data) → RepresentsSome (OfType rows) rows s d → (r : ℕ) × RepresentsSome (Fits rows r) rows s d
   shows_room s d (v, fits, shows) = (fits.0, (v, fits.1, shows))
 
   abbrev EntryFits : (key : TypeNo) (value : Slot) → ℕ → List ℕ × Value → Type 0
-  EntryFits key value r p = IsUtf8 p.0 × Shows (Fits rows r) rows (plainly key) (T.text p.0) × Fits rows r value p.1
+  EntryFits key value r p = IsUtf8 p.0 × RepresentsSome (Fits rows r) rows (plainly key) (T.text p.0) × Fits rows r value p.1
 
   entry_more : (key : TypeNo) (value : Slot) (m n : ℕ) → m ≤ n → (p : List ℕ × Value) → EntryFits key value m p → EntryFits key value n p
   entry_more key value m n le p (u, k, f) = (u, shows_more m n le (plainly key) (T.text p.0) k, fits_more rows m n le value p.1 f)
 
-  entry_room : (key : TypeNo) (value : Slot) (p : List ℕ × Value) → IsUtf8 p.0 × Shows (OfType rows) rows (plainly key) (T.text p.0) × OfType rows value p.1 → (r : ℕ) × EntryFits key value r p
+  entry_room : (key : TypeNo) (value : Slot) (p : List ℕ × Value) → IsUtf8 p.0 × RepresentsSome (OfType rows) rows (plainly key) (T.text p.0) × OfType rows value p.1 → (r : ℕ) × EntryFits key value r p
   entry_room key value p (u, k, f) =
       let a = shows_room (plainly key) (T.text p.0) k in
       (a.0 + f.0, (u, shows_more a.0 (a.0 + f.0) (left_room a.0 f.0) (plainly key) (T.text p.0) a.1, fits_more rows f.0 (a.0 + f.0) (right_room a.0 f.0) value p.1 f.1))
@@ -115,16 +115,16 @@ module _ (rows : List Row) where
   entries_room : (key : TypeNo) (value : Slot) (form : MapForm) (ps : List (List ℕ × Value)) → EntriesFit (OfType rows) rows key value form ps → (r : ℕ) × EntriesFit (Fits rows r) rows key value form ps
   entries_room key value form ps h =
       let a = all_room (EntryFits key value) (entry_more key value) ps
-      (all_more (λ p. IsUtf8 p.0 × Shows (OfType rows) rows (plainly key) (T.text p.0) × OfType rows value p.1) (λ p. (r : ℕ) × EntryFits key value r p) (entry_room key value) ps h.1) in
+      (all_more (λ p. IsUtf8 p.0 × RepresentsSome (OfType rows) rows (plainly key) (T.text p.0) × OfType rows value p.1) (λ p. (r : ℕ) × EntryFits key value r p) (entry_room key value) ps h.1) in
       (a.0, (h.0, a.1))
 
   abbrev HeldFits : (key : TypeNo) (value : Slot) → ℕ → List ℕ × Data → Type 0
-  HeldFits key value r e = Shows (Fits rows r) rows (plainly key) (T.text e.0) × Shows (Fits rows r) rows value e.1
+  HeldFits key value r e = RepresentsSome (Fits rows r) rows (plainly key) (T.text e.0) × RepresentsSome (Fits rows r) rows value e.1
 
   held_more : (key : TypeNo) (value : Slot) (m n : ℕ) → m ≤ n → (e : List ℕ × Data) → HeldFits key value m e → HeldFits key value n e
   held_more key value m n le e (k, f) = (shows_more m n le (plainly key) (T.text e.0) k, shows_more m n le value e.1 f)
 
-  held_room : (key : TypeNo) (value : Slot) (e : List ℕ × Data) → Shows (OfType rows) rows (plainly key) (T.text e.0) × Shows (OfType rows) rows value e.1 → (r : ℕ) × HeldFits key value r e
+  held_room : (key : TypeNo) (value : Slot) (e : List ℕ × Data) → RepresentsSome (OfType rows) rows (plainly key) (T.text e.0) × RepresentsSome (OfType rows) rows value e.1 → (r : ℕ) × HeldFits key value r e
   held_room key value e (k, f) =
       let a = shows_room (plainly key) (T.text e.0) k in
       let b = shows_room value e.1 f in
@@ -133,7 +133,7 @@ module _ (rows : List Row) where
   root_room : (p : HamtShape) (key : TypeNo) (value : Slot) (d : Data) → RootFits (OfType rows) rows p key value d → (r : ℕ) × RootFits (Fits rows r) rows p key value d
   root_room p key value d (slots, root, all) =
       let a = all_room (HeldFits key value) (held_more key value) (N.entries_in slots)
-      (all_more (λ e. Shows (OfType rows) rows (plainly key) (T.text e.0) × Shows (OfType rows) rows value e.1) (λ e. (r : ℕ) × HeldFits key value r e) (held_room key value) (N.entries_in slots) all) in
+      (all_more (λ e. RepresentsSome (OfType rows) rows (plainly key) (T.text e.0) × RepresentsSome (OfType rows) rows value e.1) (λ e. (r : ℕ) × HeldFits key value r e) (held_room key value) (N.entries_in slots) all) in
       (a.0, (slots, root, a.1))
 
   plain_room : (key : TypeNo) (value : Slot) (form : MapForm) (l : Layer Value) → IsSomeAnd (as_map l) (EntriesFit (OfType rows) rows key value form)

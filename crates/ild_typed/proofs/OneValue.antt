@@ -23,7 +23,7 @@ use Rattle.ild_typed.specs.Slots.{element_of, fields_of, member_at, slot_of, mem
 use Rattle.ild_typed.specs.Composed.{Hamts, composed}
 use Rattle.ild_typed.specs.Hamt.{alone}
 use Rattle.ild_schema.specs.DataKinds.{kind_in, has_kind}
-use Rattle.ild_typed.specs.Kinds.{kind_of}
+use Rattle.ild_typed.specs.Kinds.{kind_word_of}
 use Rattle.ild_typed.specs.Represented.{layered, represented, represented_values, represented_pairs, represented_fields}
 use Rattle.ild_typed.specs.Tells.{Tells}
 use Rattle.ild_schema.specs.Clear.{AreSafe, IsSafe, IsClear}
@@ -172,7 +172,7 @@ unsafe rows s safe nullable d is null =
 
 pub record IsExact (at : Hamts) : Type 0 where
   pub tells : (p : HamtShape) → Tells (at p)
-  pub kind : (p : HamtShape) (l : Layer Data) (t : Data) → at p l ≡ Some t → kind_of t ≡ K.Map
+  pub kind : (p : HamtShape) (l : Layer Data) (t : Data) → at p l ≡ Some t → kind_word_of t ≡ K.Map
 
 pub alone_exact : IsExact alone
 alone_exact = record { tells = alone_tells; kind = alone_kind }

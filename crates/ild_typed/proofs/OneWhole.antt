@@ -22,7 +22,7 @@ use Rattle.ild_schema.specs.Slots.{form_of}
 use Rattle.ild_typed.specs.Slots.{element_of, fields_of, member_of}
 use Rattle.ild_typed.specs.Composed.{Hamts, composed, map_form}
 use Rattle.ild_typed.specs.Hamt.{alone}
-use Rattle.ild_typed.specs.Kinds.{kind_of}
+use Rattle.ild_typed.specs.Kinds.{kind_word_of}
 use Rattle.ild_typed.specs.Represented.{represented, represented_values, represented_pairs, represented_fields}
 use Rattle.ild_typed.specs.Known as G
 use Rattle.ild_typed.specs.Known.{FormOk, LayerOk}
@@ -47,7 +47,7 @@ layer_other ok d l e = tt
 -- what stands for a HAMT tells its layer, where what is asked of the entries holds
 pub record IsExactFor (at : Hamts) (ok : HamtShape → List (List ℕ × Data) → Type 0) : Type 0 where
   pub tells : (p : HamtShape) (l m : Layer Data) (t : Data) → FormOk ok (MF.Hamt p) l → FormOk ok (MF.Hamt p) m → at p l ≡ Some t → at p m ≡ Some t → l ≡ m
-  pub kind : (p : HamtShape) (l : Layer Data) (t : Data) → at p l ≡ Some t → kind_of t ≡ K.Map
+  pub kind : (p : HamtShape) (l : Layer Data) (t : Data) → at p l ≡ Some t → kind_word_of t ≡ K.Map
 
 form_tells : (at : Hamts) (ok : HamtShape → List (List ℕ × Data) → Type 0) → IsExactFor at ok → (form : MapForm) → ClearMap form → (l m : Layer Data) (t : Data) → FormOk ok form l → FormOk ok form m
     → map_form at form l ≡ Some t → map_form at form m ≡ Some t → l ≡ m

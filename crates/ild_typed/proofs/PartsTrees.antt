@@ -29,7 +29,7 @@ use Rattle.ild_schema.specs.declared.def.Field.{Field}
 use Rattle.ild_schema.specs.declared.def.Member.{Member}
 use Rattle.ild_schema.specs.declared.def.Scalar.{Scalar}
 use Rattle.ild_schema.specs.declared.def.Scalar.TheVariants as C
-use Rattle.ild_schema.specs.Marks.{field_text, text_of as mark_text, kind_of as mark_kind}
+use Rattle.ild_schema.specs.Marks.{field_text, mark_text, mark_kind}
 use Rattle.ild_schema.specs.DataKinds.{same_kind}
 use Rattle.ild_schema.specs.Hex.{bytes_of_hex}
 use Rattle.ild_schema.specs.Clear.{IsGiven, AreNamesApart, ClearStruct, ClearMap, KeysApart, ClearType}
@@ -37,7 +37,7 @@ use Rattle.ild_schema.specs.Delims.{HasDelims, MapDelims, Delims}
 use Rattle.ild_schema.specs.Spelled.{SpelledStruct, SpelledMap, SpelledType, SpelledScalar, ImplicitType}
 use Rattle.ild_typed.specs.Layer as L
 use Rattle.ild_typed.specs.Layer.{Layer, as_list, as_map, as_struct, as_union}
-use Rattle.ild_typed.specs.Kinds.{kind_of}
+use Rattle.ild_typed.specs.Kinds.{kind_word_of}
 use Rattle.ild_typed.specs.Texts.{join, join_pairs}
 use Rattle.ild_typed.specs.Fields.{is_implicit, field_entries, are_absent, tuple_items, all_items}
 use Rattle.ild_typed.specs.Strings.{text_in, bytes_in, members_in, texts_in, text_pairs, in_key_order, map_data, pair_data, listpairs, stringpairs, stringjoin}
@@ -271,8 +271,8 @@ marked form d t m keys u e tree =
 
 member_tree : (form : UnionForm) (d t : Data) (m : Member) → KeysApart form → IfSome (mark_text m.mark) IsUtf8 → member_form form d m ≡ Some t → IsTree t → IsTree d
 member_tree UF.Kinded d t m keys u e tree =
-    let y = then_from (λ k. cond (same_kind k (kind_of d)) (Some d) None) (mark_kind m.mark) t e in
-    subst IsTree (sym (true_from (same_kind y.item (kind_of d)) d t y.made).1) tree
+    let y = then_from (λ k. cond (same_kind k (kind_word_of d)) (Some d) None) (mark_kind m.mark) t e in
+    subst IsTree (sym (true_from (same_kind y.item (kind_word_of d)) d t y.made).1) tree
 member_tree UF.Keyed d t m keys u e tree = marked UF.Keyed d t m keys u e tree
 member_tree UF.StringPrefix d t m keys u e tree = marked UF.StringPrefix d t m keys u e tree
 member_tree UF.BytesPrefix d t m keys u e tree = marked UF.BytesPrefix d t m keys u e tree

@@ -20,7 +20,7 @@ use Rattle.ild_schema.specs.Slots.{form_of, plainly}
 use Rattle.ild_typed.specs.Levels.{levels_of}
 use Rattle.ild_typed.specs.Node as N
 use Rattle.ild_typed.specs.Fits.{FormFits, ValueFits, FitsPast, Fits}
-use Rattle.ild_typed.specs.Layers.{layer_of, Shows, FieldsFit, EntriesFit, RootFits, MapFits, LayerFits}
+use Rattle.ild_typed.specs.Layers.{layer_of, RepresentsSome, FieldsFit, EntriesFit, RootFits, MapFits, LayerFits}
 
 pub all_more : {X : Type 0} (P Q : X → Type 0) → ((x : X) → P x → Q x) → (xs : List X) → AllByRecursion P xs → AllByRecursion Q xs
 all_more P Q m [] all = tt
@@ -31,7 +31,7 @@ some_more P Q m None h = absurd h
 some_more P Q m (Some x) h = m x h
 
 module _ (rows : List Row) (P Q : Slot → Value → Type 0) (more : (s : Slot) (v : Value) → P s v → Q s v) where
-  pub shows_more : (s : Slot) (d : Data) → Shows P rows s d → Shows Q rows s d
+  pub shows_more : (s : Slot) (d : Data) → RepresentsSome P rows s d → RepresentsSome Q rows s d
   shows_more s d (v, fits, shows) = (v, more s v fits, shows)
 
   pub fields_more : (fs : List Field) (os : List (Option Value)) → FieldsFit P fs os → FieldsFit Q fs os
@@ -44,7 +44,7 @@ module _ (rows : List Row) (P Q : Slot → Value → Type 0) (more : (s : Slot) 
   pub entries_more : (key : TypeNo) (value : Slot) (form : MapForm) (ps : List (List ℕ × Value)) → EntriesFit P rows key value form ps → EntriesFit Q rows key value form ps
   entries_more key value form ps h = (
     h.0,
-    all_more (λ p. IsUtf8 p.0 × Shows P rows (plainly key) (T.text p.0) × P value p.1) (λ p. IsUtf8 p.0 × Shows Q rows (plainly key) (T.text p.0) × Q value p.1)
+    all_more (λ p. IsUtf8 p.0 × RepresentsSome P rows (plainly key) (T.text p.0) × P value p.1) (λ p. IsUtf8 p.0 × RepresentsSome Q rows (plainly key) (T.text p.0) × Q value p.1)
         (λ p e. (e.0, shows_more (plainly key) (T.text p.0) e.1, more value p.1 e.2)) ps h.1,
   )
 
@@ -52,7 +52,7 @@ module _ (rows : List Row) (P Q : Slot → Value → Type 0) (more : (s : Slot) 
   root_more p key value d (slots, root, all) = (
     slots,
     root,
-    all_more (λ e. Shows P rows (plainly key) (T.text e.0) × Shows P rows value e.1) (λ e. Shows Q rows (plainly key) (T.text e.0) × Shows Q rows value e.1)
+    all_more (λ e. RepresentsSome P rows (plainly key) (T.text e.0) × RepresentsSome P rows value e.1) (λ e. RepresentsSome Q rows (plainly key) (T.text e.0) × RepresentsSome Q rows value e.1)
         (λ e h. (shows_more (plainly key) (T.text e.0) h.0, shows_more value e.1 h.1)) (N.entries_in slots) all,
   )
 

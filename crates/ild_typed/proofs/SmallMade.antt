@@ -24,7 +24,7 @@ use Rattle.ild_data.specs.TrieShape.{usual}
 use Rattle.ild_typed.specs.Hamt.{root_map}
 use Rattle.ild_data.specs.Trie.{bucket, node_data}
 use Rattle.ild_schema.specs.DataKinds.{same_kind}
-use Rattle.ild_schema.specs.Marks.{kind_of as mark_kind}
+use Rattle.ild_schema.specs.Marks.{mark_kind}
 use Rattle.ild_schema.specs.Clear.{Clash, ClearType, AreSafe, IsClear}
 use Rattle.ild_schema.specs.Spelled.{SpelledType, IsSpelled, NamedType, IsNamed}
 use Rattle.ild_schema.specs.Made.{HasOnly, IsTextSlot, MadeType, IsMade}

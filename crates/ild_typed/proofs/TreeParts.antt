@@ -27,7 +27,7 @@ use Rattle.ild_schema.specs.Slots.{plainly}
 use Rattle.ild_typed.specs.Slots.{slot_of, element_of, fields_of, member_at}
 use Rattle.ild_typed.specs.Composed.{Hamts}
 use Rattle.ild_typed.specs.Represented.{represented, represented_values, represented_pairs, represented_fields}
-use Rattle.ild_typed.specs.Layers.{AreKeys, Shows, FieldsFit, EntriesFit, RootFits, MapFits, LayerFits}
+use Rattle.ild_typed.specs.Layers.{AreKeys, RepresentsSome, FieldsFit, EntriesFit, RootFits, MapFits, LayerFits}
 use Rattle.ild_typed.specs.Nested.{TreeIn}
 use Rattle.ild_typed.proofs.Basics.{map_from}
 use Rattle.ild_typed.proofs.Entries.{both_from}
@@ -89,7 +89,7 @@ module _ (fits : Slot → Value → Type 0) (rows : List Row) where
 
   -- an entry: its key is a text, and its value fits
   entries_fit : (key : TypeNo) (value : Slot) (ps : List (List ℕ × Value))
-      → AllByRecursion (λ p. IsUtf8 p.0 × Shows fits rows (plainly key) (T.text p.0) × fits value p.1) ps → AllByRecursion (λ p. IsUtf8 p.0 × fits value p.1) ps
+      → AllByRecursion (λ p. IsUtf8 p.0 × RepresentsSome fits rows (plainly key) (T.text p.0) × fits value p.1) ps → AllByRecursion (λ p. IsUtf8 p.0 × fits value p.1) ps
   entries_fit key value [] h = tt
   entries_fit key value (p ∷ ps) h = ((h.0.0, h.0.2), entries_fit key value ps h.1)
 

@@ -28,7 +28,7 @@ use Rattle.ild_typed.specs.Node.{entries_in}
 use Rattle.ild_typed.specs.Represented.{represented, represented_pairs, represented_fields}
 use Rattle.ild_typed.specs.Levels.{levels_of}
 use Rattle.ild_typed.specs.Fits.{FormFits, ValueFits, FitsPast, Fits}
-use Rattle.ild_typed.specs.Layers.{Shows, RootFits, LayerFits}
+use Rattle.ild_typed.specs.Layers.{RepresentsSome, RootFits, LayerFits}
 use Rattle.ild_typed.specs.Nested.{TreeIn}
 use Rattle.ild_schema.specs.Spelled.{IsSpelled}
 use Rattle.ild_typed.proofs.Basics.{map_from}
@@ -193,10 +193,10 @@ module _ (at : Hamts) (rows : List Row) (spelled : IsSpelled rows)
 -- ---- fronts
 
 entries_shown : (rows : List Row) (fits : Slot → Value → Type 0) (n : ℕ) → ((s : Slot) (v : Value) (t : Data) → fits s v → represented alone rows s v ≡ Some t → TreeIn n t) → (key value : Slot) (es : List (List ℕ × Data))
-    → AllByRecursion (λ e. Shows fits rows key (T.text e.0) × Shows fits rows value e.1) es → AllByRecursion (λ e. TreeIn n e.1) es
+    → AllByRecursion (λ e. RepresentsSome fits rows key (T.text e.0) × RepresentsSome fits rows value e.1) es → AllByRecursion (λ e. TreeIn n e.1) es
 entries_shown rows fits n good key value [] all = tt
 entries_shown rows fits n good key value (e ∷ es) all = (by all.0.1, entries_shown rows fits n good key value es all.1) where
-  by : Shows fits rows value e.1 → TreeIn n e.1
+  by : RepresentsSome fits rows value e.1 → TreeIn n e.1
   by (v, f, h) = good value v e.1 f h
 
 map_itself : (x t : Data) → a_map x ≡ Some t → x ≡ t

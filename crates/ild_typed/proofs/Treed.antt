@@ -36,9 +36,9 @@ use Rattle.ild_typed.specs.Layer as L
 use Rattle.ild_typed.specs.Layer.{Layer, as_boolean, as_integer, as_text, as_bytes, as_link, as_any, as_unit, as_enum, as_list, as_map, as_struct, as_union}
 use Rattle.ild_typed.specs.Texts.{join, join_pairs}
 use Rattle.ild_typed.specs.Fields.{is_implicit, entries_of, field_entries, are_absent, tuple_items, all_items}
-use Rattle.ild_schema.specs.Marks.{field_text, text_of as mark_text, kind_of as mark_kind}
+use Rattle.ild_schema.specs.Marks.{field_text, mark_text, mark_kind}
 use Rattle.ild_typed.specs.Strings.{text_in, bytes_in, members_in, texts_in, text_pairs, in_key_order, map_data, pair_data, listpairs, stringpairs, stringjoin}
-use Rattle.ild_typed.specs.Kinds.{kind_of}
+use Rattle.ild_typed.specs.Kinds.{kind_word_of}
 use Rattle.ild_schema.specs.DataKinds.{same_kind}
 use Rattle.ild_schema.specs.Hex.{bytes_of_hex}
 use Rattle.ild_schema.specs.Decimal.{decimal_of}
@@ -297,8 +297,8 @@ IsMarkText m = IfSome (mark_text m.mark) IsUtf8
 
 member_in : (n : ℕ) (form : UnionForm) (d t : Data) (m : Member) → SpelledKeys form → TreeIn n d → IsMarkText m → member_form form d m ≡ Some t → TreeIn (n + 1) t
 member_in n UF.Kinded d t m keys x u e =
-    let y = then_from (λ k. cond (same_kind k (kind_of d)) (Some d) None) (mark_kind m.mark) t e in
-    subst (TreeIn (n + 1)) (true_from (same_kind y.item (kind_of d)) d t y.made).1 (in_more n (n + 1) d (omega arith) x)
+    let y = then_from (λ k. cond (same_kind k (kind_word_of d)) (Some d) None) (mark_kind m.mark) t e in
+    subst (TreeIn (n + 1)) (true_from (same_kind y.item (kind_word_of d)) d t y.made).1 (in_more n (n + 1) d (omega arith) x)
 member_in n UF.Keyed d t m keys x u e = let y = then_from (marked_form UF.Keyed d) (mark_text m.mark) t e in marked_in n UF.Keyed d t y.item keys x (mark_utf8 m y.item u y.there) y.made
 member_in n UF.StringPrefix d t m keys x u e = let y = then_from (marked_form UF.StringPrefix d) (mark_text m.mark) t e in marked_in n UF.StringPrefix d t y.item keys x (mark_utf8 m y.item u y.there) y.made
 member_in n UF.BytesPrefix d t m keys x u e = let y = then_from (marked_form UF.BytesPrefix d) (mark_text m.mark) t e in marked_in n UF.BytesPrefix d t y.item keys x (mark_utf8 m y.item u y.there) y.made

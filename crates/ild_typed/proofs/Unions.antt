@@ -16,9 +16,9 @@ use Rattle.ild_schema.specs.declared.def.UnionForm.TheVariants as UF
 use Rattle.ild_schema.specs.declared.def.Member.{Member}
 use Rattle.ild_schema.specs.Prefixes.{begins}
 use Rattle.ild_typed.specs.Strings.{text_in, bytes_in, members_in, map_data}
-use Rattle.ild_typed.specs.Kinds.{kind_of}
+use Rattle.ild_typed.specs.Kinds.{kind_word_of}
 use Rattle.ild_schema.specs.DataKinds.{kind_number, same_kind}
-use Rattle.ild_schema.specs.Marks.{text_of as mark_text, kind_of as mark_kind}
+use Rattle.ild_schema.specs.Marks.{mark_text, mark_kind}
 use Rattle.ild_schema.specs.Hex.{bytes_of_hex}
 use Rattle.ild_typed.specs.Composed.{inlined, marked_form, member_form, union_form}
 use Rattle.ild_schema.specs.Clear.{SameText, Clash, KeysApart, ClearUnion}
@@ -212,14 +212,14 @@ inline_meet key m n d e a b t ma nb h k =
 
 kind_meet : (m n : Member) (d e : Data) (t : Data) → member_form UF.Kinded d m ≡ Some t → member_form UF.Kinded e n ≡ Some t → Meet UF.Kinded m n d e
 kind_meet m n d e t h k =
-    let x = then_from (λ w. cond (same_kind w (kind_of d)) (Some d) None) (mark_kind m.mark) t h in
-    let y = then_from (λ w. cond (same_kind w (kind_of e)) (Some e) None) (mark_kind n.mark) t k in
-    let x_in = true_from (same_kind x.item (kind_of d)) d t x.made in
-    let y_in = true_from (same_kind y.item (kind_of e)) e t y.made in
+    let x = then_from (λ w. cond (same_kind w (kind_word_of d)) (Some d) None) (mark_kind m.mark) t h in
+    let y = then_from (λ w. cond (same_kind w (kind_word_of e)) (Some e) None) (mark_kind n.mark) t k in
+    let x_in = true_from (same_kind x.item (kind_word_of d)) d t x.made in
+    let y_in = true_from (same_kind y.item (kind_word_of e)) e t y.made in
     let same : d ≡ e = x_in.1 ∙ sym y_in.1 in
-    let first : kind_number x.item ≡ kind_number (kind_of d) = eqb-true (kind_number x.item) (kind_number (kind_of d)) x_in.0 in
-    let second : kind_number y.item ≡ kind_number (kind_of e) = eqb-true (kind_number y.item) (kind_number (kind_of e)) y_in.0 in
-    let kinds : kind_number x.item ≡ kind_number y.item = first ∙ ap (λ c. kind_number (kind_of c)) same ∙ sym second in
+    let first : kind_number x.item ≡ kind_number (kind_word_of d) = eqb-true (kind_number x.item) (kind_number (kind_word_of d)) x_in.0 in
+    let second : kind_number y.item ≡ kind_number (kind_word_of e) = eqb-true (kind_number y.item) (kind_number (kind_word_of e)) y_in.0 in
+    let kinds : kind_number x.item ≡ kind_number y.item = first ∙ ap (λ c. kind_number (kind_word_of c)) same ∙ sym second in
     record { clash = inl (x.item, y.item, x.there, y.there, eq-eqb (kind_number x.item) (kind_number y.item) kinds); same = λ one. same }
 
 -- ---- any union

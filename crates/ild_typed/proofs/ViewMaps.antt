@@ -27,7 +27,7 @@ use Rattle.ild_typed.specs.Hamt.{alone}
 use Rattle.ild_typed.specs.Represented.{layered, represented, represented_pairs}
 use Rattle.ild_typed.specs.Levels.{map_levels}
 use Rattle.ild_typed.specs.Fits.{FormFits, ValueFits, FitsPast}
-use Rattle.ild_typed.specs.Layers.{AreKeysApart, AreKeys, Shows, EntriesFit, MapFits}
+use Rattle.ild_typed.specs.Layers.{AreKeysApart, AreKeys, RepresentsSome, EntriesFit, MapFits}
 use Rattle.ild_schema.specs.Clear.{IsClear, IsSafe}
 use Rattle.ild_typed.proofs.Basics.{map_from}
 use Rattle.ild_typed.proofs.Entries.{both_from}
@@ -83,12 +83,12 @@ same_back (p ∷ ps) (q ∷ qs) same = (sym same.0, same_back ps qs same.1)
 module _ (rows : List Row) (below : Slot → Value → Type 0) (key : TypeNo) (value : Slot) where
   -- what a check asks of an entry
   abbrev pub Entry : List ℕ × Data → Type 0
-  Entry e = IsUtf8 e.0 × Shows below rows (plainly key) (T.text e.0) × Shows below rows value e.1
+  Entry e = IsUtf8 e.0 × RepresentsSome below rows (plainly key) (T.text e.0) × RepresentsSome below rows value e.1
 
   record PairsOf (ds : List (List ℕ × Data)) : Type 0 where
     pairs : Pairs
     same : SameKeys (pairs_list pairs) ds
-    fit : AllByRecursion (λ p. IsUtf8 p.0 × Shows below rows (plainly key) (T.text p.0) × below value p.1) (pairs_list pairs)
+    fit : AllByRecursion (λ p. IsUtf8 p.0 × RepresentsSome below rows (plainly key) (T.text p.0) × below value p.1) (pairs_list pairs)
     there : represented_pairs alone rows value pairs ≡ Some ds
 
   pairs_of_entries : (ds : List (List ℕ × Data)) → AllByRecursion Entry ds → PairsOf ds
@@ -102,7 +102,7 @@ module _ (rows : List Row) (below : Slot → Value → Type 0) (key : TypeNo) (v
         there = ap (λ o. cons_both (option_map {U = List ℕ × Data} (λ c. (d.0, c)) o) (represented_pairs alone rows value rest.pairs)) all.0.2.2 ∙ ap (cons_both (Some d)) rest.there;
       }
 
-  entries_of_pairs : (ps : Pairs) (ds : List (List ℕ × Data)) → AllByRecursion (λ p. IsUtf8 p.0 × Shows below rows (plainly key) (T.text p.0) × below value p.1) (pairs_list ps)
+  entries_of_pairs : (ps : Pairs) (ds : List (List ℕ × Data)) → AllByRecursion (λ p. IsUtf8 p.0 × RepresentsSome below rows (plainly key) (T.text p.0) × below value p.1) (pairs_list ps)
       → represented_pairs alone rows value ps ≡ Some ds → AllByRecursion Entry ds × SameKeys (pairs_list ps) ds
   entries_of_pairs V.no_pairs ds fit e = subst (λ xs. AllByRecursion Entry xs × SameKeys (pairs_list V.no_pairs) xs) (same_Some [] ds e) (tt, tt)
   entries_of_pairs (V.pair k v ps) ds fit e =
@@ -132,7 +132,7 @@ module _ (rows : List Row) (clear : IsClear rows) (room : ℕ) (s : Slot) (key :
   Below = FitsPast rows room (map_levels form - 1)
 
   -- a map has a front that fits where its keys stand in order and its entries have
-  pub map_shows : map_levels form ≤ suc room → AreKeys form ds → AllByRecursion (Entry rows Below key value) ds → Shows (FitsPast rows (suc room) zero) rows s t
+  pub map_shows : map_levels form ≤ suc room → AreKeys form ds → AllByRecursion (Entry rows Below key value) ds → RepresentsSome (FitsPast rows (suc room) zero) rows s t
   unfolding FitsPast
   map_shows enough keys all =
       let x = pairs_of_entries rows Below key value ds all in
@@ -144,7 +144,7 @@ module _ (rows : List Row) (clear : IsClear rows) (room : ℕ) (s : Slot) (key :
       )
 
   -- and only there
-  pub map_shown : IsSafe rows s → Shows (FitsPast rows (suc room) zero) rows s t → (map_levels form ≤ suc room) × AreKeys form ds × AllByRecursion (Entry rows Below key value) ds
+  pub map_shown : IsSafe rows s → RepresentsSome (FitsPast rows (suc room) zero) rows s t → (map_levels form ≤ suc room) × AreKeys form ds × AllByRecursion (Entry rows Below key value) ds
   unfolding FitsPast
   map_shown safe (v, fits, shows) = by v fits (way_of alone rows s v t shows) where
     by : (v : Value) → ValueFits rows (suc room) (FitsPast rows room) s v → Way alone rows s v t → (map_levels form ≤ suc room) × AreKeys form ds × AllByRecursion (Entry rows Below key value) ds

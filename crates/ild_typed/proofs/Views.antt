@@ -35,7 +35,7 @@ use Rattle.ild_typed.specs.Hamt.{alone}
 use Rattle.ild_typed.specs.Represented.{layered, represented, represented_values, represented_fields}
 use Rattle.ild_typed.specs.Levels.{struct_levels}
 use Rattle.ild_typed.specs.Fits.{FormFits, ValueFits, FitsPast}
-use Rattle.ild_typed.specs.Layers.{Shows, RootFits, MapFits, FieldsFit}
+use Rattle.ild_typed.specs.Layers.{RepresentsSome, RootFits, MapFits, FieldsFit}
 use Rattle.ild_schema.specs.Clear.{IsClear, IsSafe}
 use Rattle.ild_typed.proofs.Basics.{map_from}
 use Rattle.ild_typed.proofs.Entries.{both_from}
@@ -47,7 +47,7 @@ module _ (rows : List Row) (below : Slot → Value → Type 0) where
   -- ---- the elements of a list
 
   abbrev pub Elements : Slot → List Data → Type 0
-  Elements s ds = AllByRecursion (Shows below rows s) ds
+  Elements s ds = AllByRecursion (RepresentsSome below rows s) ds
 
   pub record ValuesOf (s : Slot) (ds : List Data) : Type 0 where
     pub values : Values
@@ -76,7 +76,7 @@ module _ (rows : List Row) (below : Slot → Value → Type 0) where
   Fields [] [] = Unit {0}
   Fields [] (o ∷ os) = ⊥
   Fields (f ∷ fs) [] = ⊥
-  Fields (f ∷ fs) (Some d ∷ os) = Shows below rows f.slot d × Fields fs os
+  Fields (f ∷ fs) (Some d ∷ os) = RepresentsSome below rows f.slot d × Fields fs os
   Fields (f ∷ fs) (None ∷ os) = IsTrue f.optional × Fields fs os
 
   pub record FieldsOf (fs : List Field) (ds : List (Option Data)) : Type 0 where
@@ -127,7 +127,7 @@ struct_never (S.StringJoin delim) = refl
 module _ (rows : List Row) (clear : IsClear rows) (room : ℕ) where
   -- a struct whose layer the data are: it has a front that fits where its fields have
   pub struct_shows : (s : Slot) (st : StructDef) (t : Data) (ds : List (Option Data)) → form_of rows s ≡ Some (D.Struct st) → struct_form st.form st.fields ds ≡ Some t
-      → struct_levels st.form ≤ suc room → Fields rows (FitsPast rows room (struct_levels st.form - 1)) st.fields ds → Shows (FitsPast rows (suc room) zero) rows s t
+      → struct_levels st.form ≤ suc room → Fields rows (FitsPast rows room (struct_levels st.form - 1)) st.fields ds → RepresentsSome (FitsPast rows (suc room) zero) rows s t
   unfolding FitsPast
   struct_shows s st t ds is made enough all =
       let x = fields_of_data rows (FitsPast rows room (struct_levels st.form - 1)) st.fields ds all in (
@@ -139,7 +139,7 @@ module _ (rows : List Row) (clear : IsClear rows) (room : ℕ) where
 
   -- and only there
   pub struct_shown : (s : Slot) (st : StructDef) (t : Data) (ds : List (Option Data)) → form_of rows s ≡ Some (D.Struct st) → struct_form st.form st.fields ds ≡ Some t
-      → Shows (FitsPast rows (suc room) zero) rows s t → (struct_levels st.form ≤ suc room) × Fields rows (FitsPast rows room (struct_levels st.form - 1)) st.fields ds
+      → RepresentsSome (FitsPast rows (suc room) zero) rows s t → (struct_levels st.form ≤ suc room) × Fields rows (FitsPast rows room (struct_levels st.form - 1)) st.fields ds
   unfolding FitsPast
   struct_shown s st t ds is made (v, fits, shows) = by v fits (way_of alone rows s v t shows) where
     by : (v : Value) → ValueFits rows (suc room) (FitsPast rows room) s v → Way alone rows s v t
@@ -157,7 +157,7 @@ module _ (rows : List Row) (clear : IsClear rows) (room : ℕ) where
 
   -- a list has a front that fits where its elements have
   pub list_shows : (s elem : Slot) (place : ℕ) (ds : List Data) → form_of rows s ≡ Some (D.List elem place)
-      → Elements rows (FitsPast rows room zero) elem ds → Shows (FitsPast rows (suc room) zero) rows s (T.list (T.items_of ds))
+      → Elements rows (FitsPast rows room zero) elem ds → RepresentsSome (FitsPast rows (suc room) zero) rows s (T.list (T.items_of ds))
   unfolding FitsPast
   list_shows s elem place ds is all =
       let x = values_of_elements rows (FitsPast rows room zero) elem ds all in (
@@ -169,7 +169,7 @@ module _ (rows : List Row) (clear : IsClear rows) (room : ℕ) where
 
   -- and only there
   pub list_shown : (s elem : Slot) (place : ℕ) (ds : List Data) → form_of rows s ≡ Some (D.List elem place)
-      → Shows (FitsPast rows (suc room) zero) rows s (T.list (T.items_of ds)) → Elements rows (FitsPast rows room zero) elem ds
+      → RepresentsSome (FitsPast rows (suc room) zero) rows s (T.list (T.items_of ds)) → Elements rows (FitsPast rows room zero) elem ds
   unfolding FitsPast
   list_shown s elem place ds is (v, fits, shows) = by v fits (way_of alone rows s v (T.list (T.items_of ds)) shows) where
     by : (v : Value) → ValueFits rows (suc room) (FitsPast rows room) s v → Way alone rows s v (T.list (T.items_of ds)) → Elements rows (FitsPast rows room zero) elem ds
@@ -186,7 +186,7 @@ module _ (rows : List Row) (clear : IsClear rows) (room : ℕ) where
 
   -- a union has a front that fits where its member has
   pub union_shows : (s : Slot) (u : UnionDef) (n : ℕ) (m : Member) (c t : Data) → form_of rows s ≡ Some (D.Union u) → slice_get u.members n ≡ Some m
-      → union_form u.form u.members (n, c) ≡ Some t → Shows (FitsPast rows room zero) rows (plainly m.ty) c → Shows (FitsPast rows (suc room) zero) rows s t
+      → union_form u.form u.members (n, c) ≡ Some t → RepresentsSome (FitsPast rows room zero) rows (plainly m.ty) c → RepresentsSome (FitsPast rows (suc room) zero) rows s t
   unfolding FitsPast
   union_shows s u n m c t is member made (w, fits, shows) = (
     V.union n w,
@@ -199,10 +199,10 @@ module _ (rows : List Row) (clear : IsClear rows) (room : ℕ) where
 
   -- and only there
   pub union_shown : (s : Slot) (u : UnionDef) (n : ℕ) (m : Member) (c t : Data) → IsSafe rows s → form_of rows s ≡ Some (D.Union u) → slice_get u.members n ≡ Some m
-      → union_form u.form u.members (n, c) ≡ Some t → Shows (FitsPast rows (suc room) zero) rows s t → Shows (FitsPast rows room zero) rows (plainly m.ty) c
+      → union_form u.form u.members (n, c) ≡ Some t → RepresentsSome (FitsPast rows (suc room) zero) rows s t → RepresentsSome (FitsPast rows room zero) rows (plainly m.ty) c
   unfolding FitsPast
   union_shown s u n m c t safe is member made (v, fits, shows) = by v fits (way_of alone rows s v t shows) where
-    by : (v : Value) → ValueFits rows (suc room) (FitsPast rows room) s v → Way alone rows s v t → Shows (FitsPast rows room zero) rows (plainly m.ty) c
+    by : (v : Value) → ValueFits rows (suc room) (FitsPast rows room) s v → Way alone rows s v t → RepresentsSome (FitsPast rows room zero) rows (plainly m.ty) c
     by v fits (as_null v_null nullable is_null) =
         absurd (unsafe rows s safe nullable (D.Union u) is (composed_kind alone alone_kind (D.Union u) (L.union n c) T.null (made ∙ ap Some is_null)))
     by v fits (as_layer d l known there composes) =
@@ -217,7 +217,7 @@ module _ (rows : List Row) (clear : IsClear rows) (room : ℕ) where
 
   -- a HAMT has a front that fits where the entries in the block of its root have
   pub hamt_shows : (s : Slot) (p : HamtShape) (key : TypeNo) (key_at : ℕ) (value : Slot) (place : ℕ) (ms : T.Members) → form_of rows s ≡ Some (D.Map key key_at value place (MF.Hamt p))
-      → 5 ≤ suc room → RootFits (FitsPast rows room 4) rows p key value (T.map ms) → Shows (FitsPast rows (suc room) zero) rows s (T.map ms)
+      → 5 ≤ suc room → RootFits (FitsPast rows room 4) rows p key value (T.map ms) → RepresentsSome (FitsPast rows (suc room) zero) rows s (T.map ms)
   unfolding FitsPast
   hamt_shows s p key key_at value place ms is enough root = (
     V.hamt (T.map ms),
@@ -227,7 +227,7 @@ module _ (rows : List Row) (clear : IsClear rows) (room : ℕ) where
 
   -- and only there
   pub hamt_shown : (s : Slot) (p : HamtShape) (key : TypeNo) (key_at : ℕ) (value : Slot) (place : ℕ) (ms : T.Members) → form_of rows s ≡ Some (D.Map key key_at value place (MF.Hamt p))
-      → Shows (FitsPast rows (suc room) zero) rows s (T.map ms) → (5 ≤ suc room) × RootFits (FitsPast rows room 4) rows p key value (T.map ms)
+      → RepresentsSome (FitsPast rows (suc room) zero) rows s (T.map ms) → (5 ≤ suc room) × RootFits (FitsPast rows room 4) rows p key value (T.map ms)
   unfolding FitsPast
   hamt_shown s p key key_at value place ms is (v, fits, shows) = by v fits (way_of alone rows s v (T.map ms) shows) where
     root : MapFits (FitsPast rows room 4) rows key value (MF.Hamt p) (L.hamt (T.map ms)) → RootFits (FitsPast rows room 4) rows p key value (T.map ms)

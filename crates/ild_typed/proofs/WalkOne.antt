@@ -25,7 +25,7 @@ use Rattle.ild_typed.specs.Fields.{is_implicit}
 use Rattle.ild_typed.specs.Composed.{composed}
 use Rattle.ild_typed.specs.Hamt.{alone}
 use Rattle.ild_typed.specs.Fits.{FitsPast}
-use Rattle.ild_typed.specs.Layers.{Shows}
+use Rattle.ild_typed.specs.Layers.{RepresentsSome}
 use Rattle.ild_schema.specs.Clear.{ClearType, IsClear, IsSafe, AreSafe}
 use Rattle.ild_typed.specs.Why.{Why}
 use Rattle.ild_typed.specs.Spots.{Spot, value_spot, element_spots, entry_spots, field_steps, field_spots, spots_of, member_spots}
@@ -185,7 +185,7 @@ own_or_parts room d t w ps (inl e) none parts = none-some w (sym none ∙ e)
 own_or_parts room d t w ps (inr h) none parts = has_root d t ps parts h.1
 
 first_one : (rows : List Row) (fits : Slot → Value → Type 0) (refused : Slot → Data → Refusal → Type 0)
-    → ((s : Slot) → IsSafe rows s → (t : Data) (q : Refusal) → refused s t q → Shows fits rows s t → ⊥)
+    → ((s : Slot) → IsSafe rows s → (t : Data) (q : Refusal) → refused s t q → RepresentsSome fits rows s t → ⊥)
     → ((s : Slot) → IsSafe rows s → (t : Data) (q r : Refusal) → refused s t q → refused s t r → q ≡ r)
     → (ps : List Spot) → AllSafe rows ps → (q r : Refusal) → FirstRefused fits refused rows ps q → FirstRefused fits refused rows ps r → q ≡ r
 first_one rows fits refused sound one [] safe q r h k = absurd h
@@ -195,7 +195,7 @@ first_one rows fits refused sound one (p ∷ ps) safe q r (inr h) (inl (b, k, g)
 first_one rows fits refused sound one (p ∷ ps) safe q r (inr h) (inr k) = first_one rows fits refused sound one ps safe.1 q r h.1 k.1
 
 module _ (rows : List Row) (clear : IsClear rows) (room : ℕ) (fits : ℕ → Slot → Value → Type 0) (refused : ℕ → Slot → Data → Refusal → Type 0)
-    (sound : (over : ℕ) (s : Slot) → IsSafe rows s → (t : Data) (q : Refusal) → refused over s t q → Shows (fits over) rows s t → ⊥)
+    (sound : (over : ℕ) (s : Slot) → IsSafe rows s → (t : Data) (q : Refusal) → refused over s t q → RepresentsSome (fits over) rows s t → ⊥)
     (one : (over : ℕ) (s : Slot) → IsSafe rows s → (t : Data) (q r : Refusal) → refused over s t q → refused over s t r → q ≡ r) where
   abbrev Rest : Slot → Data → Refusal → TypeDef → Type 0
   Rest s t r d =

@@ -31,7 +31,7 @@ use Rattle.ild_typed.specs.Composed.{composed, map_form, struct_form, union_form
 use Rattle.ild_typed.specs.Hamt.{alone, a_map}
 use Rattle.ild_typed.specs.Represented.{represented}
 use Rattle.ild_typed.specs.Fits.{FormFits, ValueFits, FitsPast}
-use Rattle.ild_typed.specs.Layers.{AreKeysApart, Shows}
+use Rattle.ild_typed.specs.Layers.{AreKeysApart, RepresentsSome}
 use Rattle.ild_schema.specs.Clear.{IsClear, IsSafe}
 use Rattle.ild_typed.specs.Named.{where_some, names, is_among, has_twice}
 use Rattle.ild_typed.specs.Causes.{why_of}
@@ -144,7 +144,7 @@ a_map_is x t e = absurd (none-some t e)
 root_fine : (p : HamtShape) (slots : List Trie.TrieSlot) (t : Data) → IsRoot p slots t → root_why p t ≡ None
 root_fine p slots t root = ap (root_why p) root.tree ∙ ap (λ b. cond (not b) (Some W.BucketSize) None) (int_self (pos p.bucket))
 
-module _ (rows : List Row) (clear : IsClear rows) (delims : AllDelims rows) (room : ℕ) (s : Slot) (safe : IsSafe rows s) (t : Data) (shows : Shows (FitsPast rows (suc room) zero) rows s t) where
+module _ (rows : List Row) (clear : IsClear rows) (delims : AllDelims rows) (room : ℕ) (s : Slot) (safe : IsSafe rows s) (t : Data) (shows : RepresentsSome (FitsPast rows (suc room) zero) rows s t) where
   keys_none : (d : TypeDef) (l : Layer Data) → form_of rows s ≡ Some d → composed alone d l ≡ Some t → keys_why d t ≡ None
   keys_none (D.Map key key_at value at MF.Map) l is e = refl
   keys_none (D.Map key key_at value at (MF.Hamt p)) l is e = refl
@@ -178,7 +178,7 @@ module _ (rows : List Row) (clear : IsClear rows) (delims : AllDelims rows) (roo
   root_there (D.Map key key_at value at (MF.Hamt p)) l is e =
       let x = then_from a_map (as_hamt l) t e in
       let y = a_map_is x.item t x.made in
-      let z = hamt_shown rows clear room s p key key_at value at y.0 is (subst (λ u. Shows (FitsPast rows (suc room) zero) rows s u) y.1 shows) in
+      let z = hamt_shown rows clear room s p key key_at value at y.0 is (subst (λ u. RepresentsSome (FitsPast rows (suc room) zero) rows s u) y.1 shows) in
       let root : IsRoot p z.1.0 t = subst (IsRoot p z.1.0) (sym y.1) z.1.1 in
       (root_fine p z.1.0 t root, λ none. none z.1.0 root)
   root_there (D.Map key key_at value at MF.Map) l is e = (refl, λ h. h)
@@ -228,7 +228,7 @@ no_keys (D.Union u) t fits = (refl, refl, λ h. h)
 no_keys (D.Enum en) t fits = (refl, refl, λ h. h)
 no_keys (D.Copy target) t fits = (refl, refl, λ h. h)
 
-flat_none : (rows : List Row) → IsClear rows → AllDelims rows → (s : Slot) (t : Data) → Shows (FitsPast rows zero zero) rows s t → (d : TypeDef) → form_of rows s ≡ Some d → is_null_there s t ≡ false
+flat_none : (rows : List Row) → IsClear rows → AllDelims rows → (s : Slot) (t : Data) → RepresentsSome (FitsPast rows zero zero) rows s t → (d : TypeDef) → form_of rows s ≡ Some d → is_null_there s t ≡ false
     → (why_at zero d t ≡ None) × (HasNoRoot d t → ⊥)
 unfolding FitsPast
 flat_none rows clear delims s t shows d is there =
@@ -241,7 +241,7 @@ flat_none rows clear delims s t shows d is there =
 
 module _ (rows : List Row) (below : Slot → Value → Type 0) where
   abbrev AllShow : List Spot → Type 0
-  AllShow ps = AllByRecursion (λ p. IsSafe rows p.slot × Shows below rows p.slot p.tree) ps
+  AllShow ps = AllByRecursion (λ p. IsSafe rows p.slot × RepresentsSome below rows p.slot p.tree) ps
 
   elements_show : (elem : Slot) → IsSafe rows elem → (n : ℕ) (ds : List Data) → Elements rows below elem ds → AllShow (element_spots elem n ds)
   elements_show elem safe n [] all = tt
@@ -270,7 +270,7 @@ module _ (rows : List Row) (below : Slot → Value → Type 0) where
 
   module _ (key : TypeNo) (value : Slot) (safe : IsSafe rows value) where
     abbrev Shown : List ℕ × Data → Type 0
-    Shown e = Shows below rows (plainly key) (T.text e.0) × Shows below rows value e.1
+    Shown e = RepresentsSome below rows (plainly key) (T.text e.0) × RepresentsSome below rows value e.1
 
     bucket_shows : (n i : ℕ) (es : List (List ℕ × Data)) → AllByRecursion Shown es → AllShow (bucket_spots key value n i es)
     bucket_shows n i [] all = tt
@@ -299,7 +299,7 @@ one_root p ss ts t a b =
     let node : Trie.node_data ss ≡ Trie.node_data ts = same_Some (Trie.node_data ss) (Trie.node_data ts) (ap node_inside (sym a.tree ∙ b.tree)) in
     same_node ss ts (whole_map p.width (length ss) p.wide a.indices) (b.indices ∙ sym a.indices) node
 
-module _ (rows : List Row) (clear : IsClear rows) (room : ℕ) (s : Slot) (safe : IsSafe rows s) (t : Data) (shows : Shows (FitsPast rows (suc room) zero) rows s t) where
+module _ (rows : List Row) (clear : IsClear rows) (room : ℕ) (s : Slot) (safe : IsSafe rows s) (t : Data) (shows : RepresentsSome (FitsPast rows (suc room) zero) rows s t) where
   abbrev Parts : TypeDef → List Spot → Type 0
   Parts d ps = AllShow rows (FitsPast rows room (needs d t - 1)) ps
 
@@ -318,7 +318,7 @@ module _ (rows : List Row) (clear : IsClear rows) (room : ℕ) (s : Slot) (safe 
   parts_show (D.List elem at) ps is (l, made, e) =
       let own : TypeDef = D.List elem at in
       let x = map_from (λ ds. T.list (T.items_of ds)) (as_list l) t made in
-      let shown = list_shown rows clear room s elem at x.item is (subst (λ u. Shows (FitsPast rows (suc room) zero) rows s u) (sym (same_Some (T.list (T.items_of x.item)) t x.made)) shows) in
+      let shown = list_shown rows clear room s elem at x.item is (subst (λ u. RepresentsSome (FitsPast rows (suc room) zero) rows s u) (sym (same_Some (T.list (T.items_of x.item)) t x.made)) shows) in
       subst (Parts own) (sym (e ∙ ap (spots_of own) (only_list l x.item x.there))) (elements_show rows (FitsPast rows room zero) elem (safe_parts rows clear s own is) 0 x.item shown)
   parts_show (D.Map key key_at value at MF.Map) ps is (l, made, e) =
       let x = map_from map_data (as_map l) t made in
@@ -332,7 +332,7 @@ module _ (rows : List Row) (clear : IsClear rows) (room : ℕ) (s : Slot) (safe 
   parts_show (D.Map key key_at value at (MF.Hamt p)) ps is (slots, root, e) =
       let own : TypeDef = D.Map key key_at value at (MF.Hamt p) in
       let inner : (ms : T.Members) × (t ≡ T.map ms) = (_, root.tree) in
-      let x = hamt_shown rows clear room s p key key_at value at inner.0 is (subst (λ u. Shows (FitsPast rows (suc room) zero) rows s u) inner.1 shows) in
+      let x = hamt_shown rows clear room s p key key_at value at inner.0 is (subst (λ u. RepresentsSome (FitsPast rows (suc room) zero) rows s u) inner.1 shows) in
       let same : x.1.0 ≡ slots = one_root p x.1.0 slots t (subst (IsRoot p x.1.0) (sym inner.1) x.1.1) root in
       let all = root_shows rows (FitsPast rows room 4) key value (safe_parts rows clear s own is) 0 x.1.0 x.1.2 in
       subst (Parts own) (ap (root_spots key value 0) same ∙ sym e) all
@@ -362,7 +362,7 @@ module _ (rows : List Row) (clear : IsClear rows) (room : ℕ) (s : Slot) (safe 
 -- ---- the walk
 
 first_sound : (rows : List Row) (fits : Slot → Value → Type 0) (refused : Slot → Data → Refusal → Type 0)
-    → ((s : Slot) → IsSafe rows s → (t : Data) (q : Refusal) → refused s t q → Shows fits rows s t → ⊥)
+    → ((s : Slot) → IsSafe rows s → (t : Data) (q : Refusal) → refused s t q → RepresentsSome fits rows s t → ⊥)
     → (ps : List Spot) (r : Refusal) → AllShow rows fits ps → FirstRefused fits refused rows ps r → ⊥
 first_sound rows fits refused sound [] r all h = h
 first_sound rows fits refused sound (p ∷ ps) r all (inl (q, h, e)) = sound p.slot all.0.0 p.tree q h all.0.1
@@ -378,7 +378,7 @@ why_never room d t w (none, root) (inl e) = none-some w (sym none ∙ e)
 why_never room d t w (none, root) (inr h) = root h.1
 
 pub refused_sound : (rows : List Row) → IsClear rows → AllDelims rows → (room over : ℕ) (s : Slot) → IsSafe rows s → (t : Data) (r : Refusal)
-    → RefusedPast rows room over s t r → Shows (FitsPast rows room over) rows s t → ⊥
+    → RefusedPast rows room over s t r → RepresentsSome (FitsPast rows room over) rows s t → ⊥
 unfolding RefusedPast FitsPast
 refused_sound rows clear delims zero zero s safe t r (there, d, is, inl (w, why, e)) shows = why_never zero d t w (flat_none rows clear delims s t shows d is there) why
 refused_sound rows clear delims zero zero s safe t r (there, d, is, inr (none, ps, parts, first)) shows = never_first rows (λ u w. ⊥) ps r first

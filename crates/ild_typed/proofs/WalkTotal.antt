@@ -36,7 +36,7 @@ use Rattle.ild_typed.specs.Hamt.{alone}
 use Rattle.ild_typed.specs.Levels.{struct_levels}
 use Rattle.ild_typed.specs.Represented.{layered}
 use Rattle.ild_typed.specs.Fits.{Front, FormFits, ValueFits, FitsPast}
-use Rattle.ild_typed.specs.Layers.{AreKeysApart, AreKeys, Shows, IsNotNull}
+use Rattle.ild_typed.specs.Layers.{AreKeysApart, AreKeys, RepresentsSome, IsNotNull}
 use Rattle.ild_schema.specs.Clear.{IsClear}
 use Rattle.ild_typed.specs.Named.{where_some, names, is_among, has_twice}
 use Rattle.ild_typed.specs.Why.{Why}
@@ -158,7 +158,7 @@ struct_shape (S.StringJoin delim) fs os t e = let x = then_from (stringjoin deli
 
 module _ (rows : List Row) (below : Slot → Value → Type 0) where
   abbrev Good : Spot → Type 0
-  Good p = Shows below rows p.slot p.tree
+  Good p = RepresentsSome below rows p.slot p.tree
 
   elements_good : (elem : Slot) (n : ℕ) (ds : List Data) → AllByRecursion Good (element_spots elem n ds) → Elements rows below elem ds
   elements_good elem n [] all = tt
@@ -176,7 +176,7 @@ module _ (rows : List Row) (below : Slot → Value → Type 0) where
   fields_good form n (f ∷ fs) (None ∷ os) shape all = (shape.0, fields_good form n fs os shape.1 all)
   fields_good form n (f ∷ fs) (Some d ∷ os) shape all = by (is_implicit f.implicit d) all (λ m. fields_good form m fs os shape) where
     by : (b : Bool) → AllByRecursion Good (cond b (value_spot f.slot d [] ∷ field_spots form n fs os) (value_spot f.slot d (field_steps form f n) ∷ field_spots form (n + 1) fs os))
-        → ((m : ℕ) → AllByRecursion Good (field_spots form m fs os) → Fields rows below fs os) → Shows below rows f.slot d × Fields rows below fs os
+        → ((m : ℕ) → AllByRecursion Good (field_spots form m fs os) → Fields rows below fs os) → RepresentsSome below rows f.slot d × Fields rows below fs os
     by true h more = (h.0, more n h.1)
     by false h more = (h.0, more (n + 1) h.1)
 
@@ -186,7 +186,7 @@ module _ (rows : List Row) (below : Slot → Value → Type 0) where
 
   module _ (key : TypeNo) (value : Slot) where
     abbrev Both : List ℕ × Data → Type 0
-    Both e = Shows below rows (plainly key) (T.text e.0) × Shows below rows value e.1
+    Both e = RepresentsSome below rows (plainly key) (T.text e.0) × RepresentsSome below rows value e.1
 
     join_all : (es fs : List (List ℕ × Data)) → AllByRecursion Both es → AllByRecursion Both fs → AllByRecursion Both (es ++ fs)
     join_all [] fs a b = b
@@ -222,13 +222,13 @@ below_length (y ∷ ys) zero x e = omega arith
 below_length (y ∷ ys) (suc n) x e = let h = below_length ys n x e in omega (arith, h)
 
 module _ (rows : List Row) (room : ℕ) (below : ℕ → Slot → Value → Type 0) (s : Slot) (t : Data) (tree : IsTree t) where
-  null_shows : is_null_there s t ≡ true → Shows (ValueFits rows room below) rows s t
+  null_shows : is_null_there s t ≡ true → RepresentsSome (ValueFits rows room below) rows s t
   null_shows e = by t e where
-    by : (u : Data) → is_null_there s u ≡ true → Shows (ValueFits rows room below) rows s u
+    by : (u : Data) → is_null_there s u ≡ true → RepresentsSome (ValueFits rows room below) rows s u
     by T.null h = (V.null, h, ap (λ b. cond b (Some T.null) None) h)
     by u h = absurd cc
 
-  bool_shows : (l : Layer Data) → form_of rows s ≡ Some D.Bool → needs D.Bool t ≤ room → composed alone D.Bool l ≡ Some t → Shows (ValueFits rows room below) rows s t
+  bool_shows : (l : Layer Data) → form_of rows s ≡ Some D.Bool → needs D.Bool t ≤ room → composed alone D.Bool l ≡ Some t → RepresentsSome (ValueFits rows room below) rows s t
   bool_shows l is fits made =
       let x = map_from T.boolean (as_boolean l) t made in (
         V.boolean x.item,
@@ -236,7 +236,7 @@ module _ (rows : List Row) (room : ℕ) (below : ℕ → Slot → Value → Type
         ap (λ o. layered alone o (Some (L.boolean x.item))) is ∙ x.made,
       )
 
-  text_shows : (l : Layer Data) → form_of rows s ≡ Some D.Text → needs D.Text t ≤ room → composed alone D.Text l ≡ Some t → Shows (ValueFits rows room below) rows s t
+  text_shows : (l : Layer Data) → form_of rows s ≡ Some D.Text → needs D.Text t ≤ room → composed alone D.Text l ≡ Some t → RepresentsSome (ValueFits rows room below) rows s t
   text_shows l is fits made =
       let x = map_from T.text (as_text l) t made in (
         V.text x.item,
@@ -244,7 +244,7 @@ module _ (rows : List Row) (room : ℕ) (below : ℕ → Slot → Value → Type
         ap (λ o. layered alone o (Some (L.text x.item))) is ∙ x.made,
       )
 
-  bytes_shows : (l : Layer Data) → form_of rows s ≡ Some D.Bytes → needs D.Bytes t ≤ room → composed alone D.Bytes l ≡ Some t → Shows (ValueFits rows room below) rows s t
+  bytes_shows : (l : Layer Data) → form_of rows s ≡ Some D.Bytes → needs D.Bytes t ≤ room → composed alone D.Bytes l ≡ Some t → RepresentsSome (ValueFits rows room below) rows s t
   bytes_shows l is fits made =
       let x = map_from T.bytes (as_bytes l) t made in (
         V.bytes x.item,
@@ -252,7 +252,7 @@ module _ (rows : List Row) (room : ℕ) (below : ℕ → Slot → Value → Type
         ap (λ o. layered alone o (Some (L.bytes x.item))) is ∙ x.made,
       )
 
-  int_shows : (l : Layer Data) → form_of rows s ≡ Some D.Int → needs D.Int t ≤ room → composed alone D.Int l ≡ Some t → Shows (ValueFits rows room below) rows s t
+  int_shows : (l : Layer Data) → form_of rows s ≡ Some D.Int → needs D.Int t ≤ room → composed alone D.Int l ≡ Some t → RepresentsSome (ValueFits rows room below) rows s t
   int_shows l is fits made =
       let x = map_from T.integer (as_integer l) t made in (
         V.integer x.item,
@@ -260,7 +260,7 @@ module _ (rows : List Row) (room : ℕ) (below : ℕ → Slot → Value → Type
         ap (λ o. layered alone o (Some (L.integer x.item))) is ∙ x.made,
       )
 
-  link_shows : (target : TypeNo) → (l : Layer Data) → form_of rows s ≡ Some (D.Link target) → needs (D.Link target) t ≤ room → composed alone (D.Link target) l ≡ Some t → Shows (ValueFits rows room below) rows s t
+  link_shows : (target : TypeNo) → (l : Layer Data) → form_of rows s ≡ Some (D.Link target) → needs (D.Link target) t ≤ room → composed alone (D.Link target) l ≡ Some t → RepresentsSome (ValueFits rows room below) rows s t
   link_shows target l is fits made =
       let x = map_from T.link (as_link l) t made in (
         V.link x.item,
@@ -268,7 +268,7 @@ module _ (rows : List Row) (room : ℕ) (below : ℕ → Slot → Value → Type
         ap (λ o. layered alone o (Some (L.link x.item))) is ∙ x.made,
       )
 
-  any_shows : (l : Layer Data) → form_of rows s ≡ Some D.Any → needs D.Any t ≤ room → composed alone D.Any l ≡ Some t → Shows (ValueFits rows room below) rows s t
+  any_shows : (l : Layer Data) → form_of rows s ≡ Some D.Any → needs D.Any t ≤ room → composed alone D.Any l ≡ Some t → RepresentsSome (ValueFits rows room below) rows s t
   any_shows l is fits made =
       let x = then_from any_data (as_any l) t made in
       let same : x.item ≡ t = any_is x.item t x.made in (
@@ -278,7 +278,7 @@ module _ (rows : List Row) (room : ℕ) (below : ℕ → Slot → Value → Type
         ap (λ o. layered alone o (Some (L.any x.item))) is ∙ x.made,
       )
 
-  unit_shows : (form : UnitForm) (l : Layer Data) → form_of rows s ≡ Some (D.Unit form) → needs (D.Unit form) t ≤ room → composed alone (D.Unit form) l ≡ Some t → Shows (ValueFits rows room below) rows s t
+  unit_shows : (form : UnitForm) (l : Layer Data) → form_of rows s ≡ Some (D.Unit form) → needs (D.Unit form) t ≤ room → composed alone (D.Unit form) l ≡ Some t → RepresentsSome (ValueFits rows room below) rows s t
   unit_shows form l is fits made =
       let x = map_from (λ u. unit_data form) (as_unit l) t made in (
         V.unit,
@@ -286,7 +286,7 @@ module _ (rows : List Row) (room : ℕ) (below : ℕ → Slot → Value → Type
         ap (λ o. layered alone o (Some L.unit)) is ∙ x.made,
       )
 
-  enum_shows : (e : EnumDef) (l : Layer Data) → form_of rows s ≡ Some (D.Enum e) → needs (D.Enum e) t ≤ room → composed alone (D.Enum e) l ≡ Some t → Shows (ValueFits rows room below) rows s t
+  enum_shows : (e : EnumDef) (l : Layer Data) → form_of rows s ≡ Some (D.Enum e) → needs (D.Enum e) t ≤ room → composed alone (D.Enum e) l ≡ Some t → RepresentsSome (ValueFits rows room below) rows s t
   enum_shows e l is fits made =
       let x = then_from (λ n. option_and_then (enum_form e.form) (slice_get e.members n)) (as_enum l) t made in
       let y = then_from (enum_form e.form) (slice_get e.members x.item) t x.made in (
@@ -304,7 +304,7 @@ IsOther d = Unit {0}
 
 module _ (rows : List Row) (clear : IsClear rows) (delims : AllDelims rows) (room : ℕ) (s : Slot) (t : Data) (tree : IsTree t) where
   abbrev Whole : Type 0
-  Whole = Shows (FitsPast rows (suc room) zero) rows s t
+  Whole = RepresentsSome (FitsPast rows (suc room) zero) rows s t
 
   abbrev PartsGood : TypeDef → List Spot → Type 0
   PartsGood d ps = AllByRecursion (Good rows (FitsPast rows room (needs d t - 1))) ps
@@ -336,7 +336,7 @@ module _ (rows : List Row) (clear : IsClear rows) (delims : AllDelims rows) (roo
       let own : TypeDef = D.List elem at in
       let x = map_from (λ ds. T.list (T.items_of ds)) (as_list l) t made in
       let good = elements_good rows (FitsPast rows room zero) elem 0 x.item (subst (λ k. PartsGood own (spots_of own k)) (only_list l x.item x.there) all) in
-      subst (λ u. Shows (FitsPast rows (suc room) zero) rows s u) (same_Some (T.list (T.items_of x.item)) t x.made) (list_shows rows clear room s elem at x.item is good)
+      subst (λ u. RepresentsSome (FitsPast rows (suc room) zero) rows s u) (same_Some (T.list (T.items_of x.item)) t x.made) (list_shows rows clear room s elem at x.item is good)
   whole_give (D.Struct st) l is free other made trees all =
       let own : TypeDef = D.Struct st in
       let x = then_from (struct_form st.form st.fields) (as_struct l) t made in
@@ -374,7 +374,7 @@ module _ (rows : List Row) (clear : IsClear rows) (delims : AllDelims rows) (roo
   root_give p key key_at value at is five slots root all =
       let inner : (ms : T.Members) × (t ≡ T.map ms) = (_, root.tree) in
       let good = root_good rows (FitsPast rows room 4) key value 0 slots all in
-      subst (λ u. Shows (FitsPast rows (suc room) zero) rows s u) (sym inner.1)
+      subst (λ u. RepresentsSome (FitsPast rows (suc room) zero) rows s u) (sym inner.1)
       (hamt_shows rows clear room s p key key_at value at inner.0 is five (slots, subst (IsRoot p slots) inner.1 root, good))
 
 -- ---- the walk
@@ -421,7 +421,7 @@ form_is (D.Map key key_at value at (MF.Hamt p)) = hamt_form p key key_at value a
 
 module _ (rows : List Row) (fits : Slot → Value → Type 0) (refused : Slot → Data → Refusal → Type 0) where
   abbrev Judged : Spot → Type 0
-  Judged p = Shows fits rows p.slot p.tree ⊎ ((q : Refusal) × refused p.slot p.tree q)
+  Judged p = RepresentsSome fits rows p.slot p.tree ⊎ ((q : Refusal) × refused p.slot p.tree q)
 
   scan : (ps : List Spot) → AllByRecursion Judged ps → AllByRecursion (Good rows fits) ps ⊎ ((r : Refusal) × FirstRefused fits refused rows ps r)
   scan [] all = inl tt
@@ -432,14 +432,14 @@ module _ (rows : List Row) (fits : Slot → Value → Type 0) (refused : Slot �
     by (inl h) (inl good) = inl (h, good)
     by (inl h) (inr (r, first)) = inr (r, inr (h, first))
 
-  judge : ((s : Slot) (t : Data) → HasForm rows s → IsTree t → Shows fits rows s t ⊎ ((q : Refusal) × refused s t q))
+  judge : ((s : Slot) (t : Data) → HasForm rows s → IsTree t → RepresentsSome fits rows s t ⊎ ((q : Refusal) × refused s t q))
       → (ps : List Spot) → AllByRecursion (λ p. HasForm rows p.slot) ps → AllByRecursion (λ p. IsTree p.tree) ps → AllByRecursion Judged ps
   judge each [] forms trees = tt
   judge each (p ∷ ps) forms trees = (each p.slot p.tree forms.0 trees.0, judge each ps forms.1 trees.1)
 
 -- without room
 flat_give : (rows : List Row) (s : Slot) (t : Data) → IsTree t → (d : TypeDef) (l : Layer Data) → form_of rows s ≡ Some d → needs d t ≤ 0 → composed alone d l ≡ Some t
-    → Shows (FitsPast rows zero zero) rows s t
+    → RepresentsSome (FitsPast rows zero zero) rows s t
 unfolding FitsPast
 flat_give rows s t tree D.Bool l is fits made = bool_shows rows zero (λ over u w. ⊥) s t tree l is fits made
 flat_give rows s t tree D.Text l is fits made = text_shows rows zero (λ over u w. ⊥) s t tree l is fits made
@@ -457,7 +457,7 @@ flat_give rows s t tree (D.Map key key_at value at MF.ListPairs) l is fits made 
 flat_give rows s t tree (D.Map key key_at value at (MF.StringPairs inner entry)) l is fits made = absurd (omega (arith, fits))
 flat_give rows s t tree (D.Map key key_at value at (MF.Hamt p)) l is fits made = absurd (omega (arith, fits))
 flat_give rows s t tree (D.Struct st) l is fits made = by st.form fits where
-  by : (form : StructForm) → struct_levels form ≤ 0 → Shows (FitsPast rows zero zero) rows s t
+  by : (form : StructForm) → struct_levels form ≤ 0 → RepresentsSome (FitsPast rows zero zero) rows s t
   by S.Map h = absurd (omega (arith, h))
   by S.Tuple h = absurd (omega (arith, h))
   by S.ListPairs h = absurd (omega (arith, h))
@@ -468,7 +468,7 @@ module _ (rows : List Row) (clear : IsClear rows) (delims : AllDelims rows)
     (trees : (s : Slot) (d : TypeDef) (t : Data) (ps : List Spot) → form_of rows s ≡ Some d → AreParts d t ps → IsTree t → AllByRecursion (λ p. IsTree p.tree) ps)
     (forms : (s : Slot) (d : TypeDef) (t : Data) (ps : List Spot) → form_of rows s ≡ Some d → AreParts d t ps → AllByRecursion (λ p. HasForm rows p.slot) ps) where
   abbrev Answer : ℕ → ℕ → Slot → Data → Type 0
-  Answer room over s t = Shows (FitsPast rows room over) rows s t ⊎ ((r : Refusal) × RefusedPast rows room over s t r)
+  Answer room over s t = RepresentsSome (FitsPast rows room over) rows s t ⊎ ((r : Refusal) × RefusedPast rows room over s t r)
 
   there_is : (s : Slot) (t : Data) → IsTree t → (d : TypeDef) → form_of rows s ≡ Some d → why_of d t ≡ None → LayerFor d t
   there_is s t tree d is own = layer_for d (clear.types (base rows s.ty.0) d is) (delims (base rows s.ty.0) d is) t (keys_rise t tree) (clean_of d t own)
@@ -577,16 +577,16 @@ past_fits rows (suc over) room zero e s v h = absurd (omega (arith, e))
 past_fits rows (suc over) room (suc n) e s v h = past_fits rows over room n (omega (arith, e)) s v h
 
 module _ (rows : List Row) (s : Slot) (t : Data) (tree : IsTree t) where
-  pub null_fits : (room : ℕ) → is_null_there s t ≡ true → Shows (FitsPast rows room zero) rows s t
+  pub null_fits : (room : ℕ) → is_null_there s t ≡ true → RepresentsSome (FitsPast rows room zero) rows s t
   unfolding FitsPast
   null_fits zero e = null_shows rows zero (λ over u w. ⊥) s t tree e
   null_fits (suc room) e = null_shows rows (suc room) (FitsPast rows room) s t tree e
 
   module _ (clear : IsClear rows) (delims : AllDelims rows) (d : TypeDef) (is : form_of rows s ≡ Some d) where
     fits_given : (room : ℕ) → why_at (suc room) d t ≡ None → (ps : List Spot) → AreParts d t ps → AllByRecursion (λ p. IsTree p.tree) ps
-        → AllByRecursion (Good rows (FitsPast rows room (needs d t - 1))) ps → Shows (FitsPast rows (suc room) zero) rows s t
+        → AllByRecursion (Good rows (FitsPast rows room (needs d t - 1))) ps → RepresentsSome (FitsPast rows (suc room) zero) rows s t
     fits_given room none ps parts trees all = by (form_is d) where
-      by : Form d → Shows (FitsPast rows (suc room) zero) rows s t
+      by : Form d → RepresentsSome (FitsPast rows (suc room) zero) rows s t
       by (other_form other) =
           let x = parts_from d other t ps parts in
           whole_give rows clear delims room s t tree d x.0 is (free (suc room) d t none) other x.1
@@ -598,10 +598,10 @@ module _ (rows : List Row) (s : Slot) (t : Data) (tree : IsTree t) where
           root_give rows clear delims room s t tree p key key_at value at (is ∙ ap Some same) five x.0 x.1 (subst (AllByRecursion (Good rows (FitsPast rows room 4))) x.2 good)
 
     -- without parts
-    pub plain_fits : (room : ℕ) → why_at room d t ≡ None → AreParts d t [] → Shows (FitsPast rows room zero) rows s t
+    pub plain_fits : (room : ℕ) → why_at room d t ≡ None → AreParts d t [] → RepresentsSome (FitsPast rows room zero) rows s t
     plain_fits (suc room) none parts = fits_given room none [] parts tt tt
     plain_fits zero none parts = by (form_is d) where
-      by : Form d → Shows (FitsPast rows zero zero) rows s t
+      by : Form d → RepresentsSome (FitsPast rows zero zero) rows s t
       by (other_form other) = let x = parts_from d other t [] parts in flat_give rows s t tree d x.0 is (free zero d t none).enough x.1
       by (hamt_form p key key_at value at same) =
           let five : 5 ≤ zero = subst (λ k. needs k t ≤ zero) same (free zero d t none).enough in
@@ -609,7 +609,7 @@ module _ (rows : List Row) (s : Slot) (t : Data) (tree : IsTree t) where
 
     -- with parts, in what room the form leaves
     pub parts_fit : (room left : ℕ) → why_at room d t ≡ None → (ps : List Spot) → AreParts d t ps → AllByRecursion (λ p. IsTree p.tree) ps → left + needs d t ≡ room → left < room
-        → AllByRecursion (Good rows (FitsPast rows left zero)) ps → Shows (FitsPast rows room zero) rows s t
+        → AllByRecursion (Good rows (FitsPast rows left zero)) ps → RepresentsSome (FitsPast rows room zero) rows s t
     parts_fit zero left none ps parts trees sum less all = absurd (omega (arith, less))
     parts_fit (suc room) left none ps parts trees sum less all =
         fits_given room none ps parts trees

@@ -11,7 +11,7 @@ use Rattle.ild_data.specs.declared.hamt_shape.HamtShape.{HamtShape}
 use Rattle.ild_data.specs.Trie.{trie}
 use Rattle.ild_typed.specs.Layer as L
 use Rattle.ild_typed.specs.Layer.{Layer, as_map}
-use Rattle.ild_typed.specs.Kinds.{kind_of}
+use Rattle.ild_typed.specs.Kinds.{kind_word_of}
 use Rattle.ild_typed.specs.Hamt.{root_map, whole}
 use Rattle.ild_typed.proofs.Basics.{then_from, map_from}
 use Rattle.ild_typed.proofs.Onlies.{only_map}
@@ -53,10 +53,10 @@ module _ (h : List ℕ → List ℕ) (Known : Data → Type 0) (one : IdsTell Kn
       let same = trie_tells h p (whole_map p.width (2 ^ p.width) p.wide refl) Known one u.item v.item x.item ku.1 kv.1 u.made (v.made ∙ ap Some node) in
       only_map l u.item u.there ∙ ap L.map (sorted_tells u.item v.item ku.0 kv.0 same) ∙ sym (only_map m v.item v.there)
 
-  whole_kind : (p : HamtShape) (l : Layer Data) (t : Data) → whole h p l ≡ Some t → kind_of t ≡ K.Map
+  whole_kind : (p : HamtShape) (l : Layer Data) (t : Data) → whole h p l ≡ Some t → kind_word_of t ≡ K.Map
   whole_kind p l t e =
       let x = map_from (root_map p) (option_and_then (λ es. trie h p es 0) (as_map l)) t e in
-      ap kind_of (sym (same_Some (root_map p x.item) t x.made))
+      ap kind_word_of (sym (same_Some (root_map p x.item) t x.made))
 
   pub whole_exact : IsExactFor (whole h) (Kept h Known)
   whole_exact = record { tells = whole_tells; kind = whole_kind }

@@ -4,7 +4,7 @@ use Rattle.std.specs.Prelude.{Bool, false, ◌||◌, not, Option}
 use Rattle.ild_data.specs.Data.{Data}
 use Rattle.ild_schema.specs.declared.def.TypeDef.{TypeDef}
 use Rattle.ild_schema.specs.declared.def.TypeDef.TheVariants as D
-use Rattle.ild_typed.specs.Kinds.{kind_of}
+use Rattle.ild_typed.specs.Kinds.{kind_word_of}
 use Rattle.ild_schema.specs.DataKinds.{has_kind}
 use Rattle.ild_typed.specs.Why as W
 use Rattle.ild_typed.specs.Why.{Why, in_order, first_that}
@@ -65,7 +65,7 @@ is_member d t = false
 
 -- the other causes are none of a layer by itself
 abbrev pub is_cause : TypeDef → Data → Why → Bool
-is_cause d t W.Kind = not (has_kind d (kind_of t)) || is_kind_why d t
+is_cause d t W.Kind = not (has_kind d (kind_word_of t)) || is_kind_why d t
 is_cause d t W.Name = is_name_why d t
 is_cause d t W.Missing = is_missing d t
 is_cause d t W.Count = is_count d t

@@ -24,9 +24,9 @@ use Rattle.ild_data.specs.declared.hamt_shape.HamtShape.{HamtShape}
 use Rattle.ild_typed.specs.Layer.{Layer, as_boolean, as_integer, as_text, as_bytes, as_link, as_any, as_unit, as_enum, as_list, as_map, as_struct, as_union}
 use Rattle.ild_typed.specs.Fields.{field_entries, tuple_items, all_items}
 use Rattle.ild_typed.specs.Strings.{text_in, bytes_in, members_in, in_key_order, map_data, listpairs, stringpairs, stringjoin}
-use Rattle.ild_typed.specs.Kinds.{kind_of}
+use Rattle.ild_typed.specs.Kinds.{kind_word_of}
 use Rattle.ild_schema.specs.DataKinds.{same_kind}
-use Rattle.ild_schema.specs.Marks.{member_text, member_integer, text_of as mark_text, kind_of as mark_kind}
+use Rattle.ild_schema.specs.Marks.{member_text, member_integer, mark_text, mark_kind}
 use Rattle.ild_schema.specs.Hex.{bytes_of_hex}
 
 -- how the layer of a HAMT of a shape stands in a block
@@ -71,7 +71,7 @@ marked_form (UF.Envelope key content) d name = Some (map_data (put key (T.text n
 marked_form (UF.Inline key) d name = option_and_then (inlined key name) (members_in d)
 
 abbrev pub member_form : UnionForm → Data → Member → Option Data
-member_form UF.Kinded d m = option_and_then (λ k. cond (same_kind k (kind_of d)) (Some d) None) (mark_kind m.mark)
+member_form UF.Kinded d m = option_and_then (λ k. cond (same_kind k (kind_word_of d)) (Some d) None) (mark_kind m.mark)
 member_form form d m = option_and_then (marked_form form d) (mark_text m.mark)
 
 abbrev pub union_form : UnionForm → List Member → ℕ × Data → Option Data

@@ -13,7 +13,7 @@ use Rattle.ild_schema.specs.Slots.{form_of, plainly}
 use Rattle.ild_typed.specs.Hamt.{alone}
 use Rattle.ild_typed.specs.Represented.{represented}
 use Rattle.ild_typed.specs.Levels.{levels_of}
-use Rattle.ild_typed.specs.Layers.{layer_of, Shows, LayerFits}
+use Rattle.ild_typed.specs.Layers.{layer_of, RepresentsSome, LayerFits}
 
 -- below says what fits where one level less and then so many more are left
 abbrev pub FormFits : List Row → ℕ → (ℕ → Slot → Value → Type 0) → Value → TypeDef → Type 0
@@ -36,7 +36,7 @@ Fits rows room s v = FitsPast rows room zero s v
 
 -- the texts of a type in text form
 abbrev pub IsTextOf : List Row → TypeNo → List ℕ → Type 0
-IsTextOf rows n k = (room : ℕ) × Shows (Fits rows room) rows (plainly n) (T.text k)
+IsTextOf rows n k = (room : ℕ) × RepresentsSome (Fits rows room) rows (plainly n) (T.text k)
 
 -- the front of data: what one block shows by itself
 pub record Front (rows : List Row) (room : ℕ) (s : Slot) (f : Value) (d : Data) : Type 0 where

@@ -62,8 +62,8 @@ AreKeys (MF.StringPairs inner entry) ps = AreKeysApart ps
 AreKeys (MF.Hamt p) ps = Rises ps
 
 -- data for which some value stands that fits
-abbrev pub Shows : (Slot → Value → Type 0) → List Row → Slot → Data → Type 0
-Shows fits rows s d = (v : Value) × fits s v × (represented alone rows s v ≡ Some d)
+abbrev pub RepresentsSome : (Slot → Value → Type 0) → List Row → Slot → Data → Type 0
+RepresentsSome fits rows s d = (v : Value) × fits s v × (represented alone rows s v ≡ Some d)
 
 abbrev pub FieldsFit : (Slot → Value → Type 0) → List Field → List (Option Value) → Type 0
 FieldsFit fits [] [] = Unit {0}
@@ -75,13 +75,13 @@ FieldsFit fits (f ∷ fs) (None ∷ os) = IsTrue f.optional × FieldsFit fits fs
 -- the entries of a map: keys are texts of the key type
 abbrev pub EntriesFit : (Slot → Value → Type 0) → List Row → TypeNo → Slot → MapForm → List (List ℕ × Value) → Type 0
 EntriesFit fits rows key value form ps =
-    AreKeys form ps × AllByRecursion (λ p. IsUtf8 p.0 × Shows fits rows (plainly key) (T.text p.0) × fits value p.1) ps
+    AreKeys form ps × AllByRecursion (λ p. IsUtf8 p.0 × RepresentsSome fits rows (plainly key) (T.text p.0) × fits value p.1) ps
 
 -- those in the block of the root of a HAMT of this shape
 abbrev pub RootFits : (Slot → Value → Type 0) → List Row → HamtShape → TypeNo → Slot → Data → Type 0
 RootFits fits rows p key value d =
     (slots : List Trie.TrieSlot) × N.IsRoot p slots d
-    × AllByRecursion (λ e. Shows fits rows (plainly key) (T.text e.0) × Shows fits rows value e.1) (N.entries_in slots)
+    × AllByRecursion (λ e. RepresentsSome fits rows (plainly key) (T.text e.0) × RepresentsSome fits rows value e.1) (N.entries_in slots)
 
 abbrev pub MapFits : (Slot → Value → Type 0) → List Row → TypeNo → Slot → MapForm → Layer Value → Type 0
 MapFits fits rows key value (MF.Hamt p) l =

@@ -16,7 +16,7 @@ use Rattle.ild_typed.specs.Hamt.{alone}
 use Rattle.ild_typed.specs.Node.{IsRoot}
 use Rattle.ild_data.specs.Trie as Trie
 use Rattle.ild_typed.specs.Fits.{FitsPast}
-use Rattle.ild_typed.specs.Layers.{Shows}
+use Rattle.ild_typed.specs.Layers.{RepresentsSome}
 use Rattle.ild_typed.specs.Why as W
 use Rattle.ild_typed.specs.Why.{Why}
 use Rattle.ild_typed.specs.Spots.{Step, Spot, spots_of}
@@ -47,7 +47,7 @@ abbrev pub FirstRefused : (Slot → Value → Type 0) → (Slot → Data → Ref
 FirstRefused fits refused rows [] r = ⊥
 FirstRefused fits refused rows (p ∷ ps) r =
     ((q : Refusal) × refused p.slot p.tree q × (r ≡ part_refusal p q))
-    ⊎ (Shows fits rows p.slot p.tree × FirstRefused fits refused rows ps r)
+    ⊎ (RepresentsSome fits rows p.slot p.tree × FirstRefused fits refused rows ps r)
 
 -- fits and refused say what fits, and is refused, where one level less and then so many more are left
 abbrev pub PieceRefused : List Row → ℕ → (ℕ → Slot → Value → Type 0) → (ℕ → Slot → Data → Refusal → Type 0) → Slot → Data → Refusal → Type 0

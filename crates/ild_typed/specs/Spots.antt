@@ -20,7 +20,7 @@ use Rattle.ild_typed.specs.Layer.{Layer, list, map, struct, union}
 use Rattle.ild_schema.specs.Slots.{plainly}
 use Rattle.ild_typed.specs.Slots.{slot_of}
 use Rattle.ild_typed.specs.Fields.{is_implicit}
-use Rattle.ild_schema.specs.Marks.{field_text, text_of as mark_text}
+use Rattle.ild_schema.specs.Marks.{field_text, mark_text}
 
 -- from an item to one in it
 pub data Step : Type 0 where

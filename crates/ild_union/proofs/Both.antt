@@ -8,7 +8,7 @@ use Rattle.ild_data.specs.Data.{Data}
 use Rattle.ild_data.specs.Key.{key_cmp, same_text, Rises}
 use Rattle.ild_data.proofs.Rising.{key_cmp_total, key_equal}
 use Rattle.ild_cbor.specs.declared.node.Node.{Node}
-use Rattle.ild_cbor.specs.Nodes.{Stands}
+use Rattle.ild_cbor.specs.Nodes.{HasData}
 use Rattle.ild_layer_piece.specs.declared.walk.MapEntries.{MapEntries}
 use Rattle.ild_layer_piece.specs.Entries.{EntriesGive, HasLeft}
 use Rattle.ild_layer_piece.proofs.Walking.{first_left, none_left}
@@ -112,8 +112,8 @@ pub record TwoLeft (x y : Bor (List ℕ) × Node) (after : MapEntries) (es : Lis
   pub two : Data
   pub rest : List (List ℕ × Data)
   pub is : es ≡ (x.0.now, one) ∷ (y.0.now, two) ∷ rest
-  pub first : Stands x.1 one
-  pub second : Stands y.1 two
+  pub first : HasData x.1 one
+  pub second : HasData y.1 two
   pub left : HasLeft after rest
 
 pub two_left : (s next after : MapEntries) (x y : Bor (List ℕ) × Node) (es : List (List ℕ × Data)) → EntriesGive s (Some x) next → EntriesGive next (Some y) after → HasLeft s es → TwoLeft x y after es

@@ -19,7 +19,7 @@ use Rattle.ild_schema.specs.declared.def.UnionForm.TheVariants as UF
 use Rattle.ild_schema.specs.Clear.{ClearUnion, KeysApart}
 use Rattle.ild_schema.specs.DataKinds.{union_has}
 use Rattle.ild_typed.specs.Causes.{why_of}
-use Rattle.ild_typed.specs.Kinds.{kind_of}
+use Rattle.ild_typed.specs.Kinds.{kind_word_of}
 use Rattle.ild_typed.specs.Named.{where_some}
 use Rattle.ild_typed.specs.Strings.{map_data, members_in, text_in}
 use Rattle.ild_typed.specs.UnionWhy.{is_discriminant, is_no_member, union_name, union_missing, union_count, union_prefix, union_member}
@@ -116,7 +116,7 @@ module _ (key content : List ℕ) (d e : Data) (es : List (List ℕ × Data)) (a
   pub no_text_there : (u : UnionDef) (t : Data) → u.form ≡ UF.Envelope key content → members_in t ≡ Some es → AreBoth key content d e es → text_in d ≡ None → why_of (D.Union u) t ≡ Some W.Member
   no_text_there u t form is both none =
       let p = pair_of both in
-      member_why u t (ap (λ (f : UnionForm). union_has f u.members (kind_of t)) form ∙ map_kind t es is)
+      member_why u t (ap (λ (f : UnionForm). union_has f u.members (kind_word_of t)) form ∙ map_kind t es is)
       (ap (λ (f : UnionForm). union_name f t) form ∙ ap (where_some (has_stranger key content)) is ∙ p.stranger)
       (ap (λ (f : UnionForm). union_missing f t) form ∙ ap (where_some (lacks_one key content)) is ∙ p.lacks)
       (ap (λ (f : UnionForm). union_count f t) form) (ap (λ (f : UnionForm). union_prefix f u.members t) form)
@@ -127,9 +127,9 @@ module _ (key content : List ℕ) (d e : Data) (es : List (List ℕ × Data)) (a
 pub entries_off : (key content : List ℕ) (es : List (List ℕ × Data)) (w : Why) (u : UnionDef) (t : Data) → u.form ≡ UF.Envelope key content → members_in t ≡ Some es → IsOff key content es w
     → why_of (D.Union u) t ≡ Some (told w)
 entries_off key content es Y.Name u t form is off =
-    name_why u t (ap (λ (f : UnionForm). union_has f u.members (kind_of t)) form ∙ map_kind t es is) (ap (λ (f : UnionForm). union_name f t) form ∙ ap (where_some (has_stranger key content)) is ∙ off)
+    name_why u t (ap (λ (f : UnionForm). union_has f u.members (kind_word_of t)) form ∙ map_kind t es is) (ap (λ (f : UnionForm). union_name f t) form ∙ ap (where_some (has_stranger key content)) is ∙ off)
 entries_off key content es Y.Missing u t form is off =
-    missing_why u t (ap (λ (f : UnionForm). union_has f u.members (kind_of t)) form ∙ map_kind t es is)
+    missing_why u t (ap (λ (f : UnionForm). union_has f u.members (kind_word_of t)) form ∙ map_kind t es is)
     (ap (λ (f : UnionForm). union_name f t) form ∙ ap (where_some (has_stranger key content)) is ∙ off.0)
     (ap (λ (f : UnionForm). union_missing f t) form ∙ ap (where_some (lacks_one key content)) is ∙ off.1)
 entries_off key content es w u t form is off = absurd off

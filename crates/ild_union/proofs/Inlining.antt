@@ -12,7 +12,7 @@ use Rattle.ild_cbor.specs.declared.kind.Kind.TheVariants as C
 use Rattle.ild_cbor.specs.declared.piece.Piece.{Piece}
 use Rattle.ild_cbor.specs.declared.piece.Piece.TheVariants as P
 use Rattle.ild_cbor.specs.declared.why.Why.{Why}
-use Rattle.ild_cbor.specs.Nodes.{Finds, Stands}
+use Rattle.ild_cbor.specs.Nodes.{Finds, HasData}
 use Rattle.ild_cbor.specs.Scalar.{kind_of as node_kind, text_of}
 use Rattle.ild_cbor.specs.Span.{entry_of, index_of, place_of}
 use Rattle.ild_schema.specs.declared.def.TypeDef.{TypeDef}
@@ -61,7 +61,7 @@ inline_told key ms text up there =
     }
 
 -- the member's own data, as a piece stands for them
-pub is_without : (passed : Option (List ℕ)) (key : List ℕ) (n : Node) (ms : T.Members) (v : Data) → passed ≡ Some key → Stands n (T.map ms) → value_at key (T.members_list ms) ≡ Some v
+pub is_without : (passed : Option (List ℕ)) (key : List ℕ) (n : Node) (ms : T.Members) (v : Data) → passed ≡ Some key → HasData n (T.map ms) → value_at key (T.members_list ms) ≡ Some v
     → IsWithout passed n (map_data (without key (T.members_list ms)))
 is_without passed key n ms v is stands there = record { key = key; key_is = is; entries = ms; stands = stands; has = ap is_some there; rest = refl }
 
@@ -79,7 +79,7 @@ map_is (T.link s) e = absurd (cc)
 record ValueAt (key : List ℕ) (ms : T.Members) (m : Node) : Type 0 where
   value : Data
   there : value_at key (T.members_list ms) ≡ Some value
-  stands : Stands m value
+  stands : HasData m value
 
 value_of : (n m : Node) (place : ℕ) (key : List ℕ) (ms : T.Members) → Finds n place (entry_of (T.map ms) key) (Some m) → ValueAt key ms m
 value_of n m place key ms h = by (value_at key (T.members_list ms)) refl h where
@@ -89,11 +89,11 @@ value_of n m place key ms h = by (value_at key (T.members_list ms)) refl h where
 
 -- the answer of a look-up by the text under the key
 pub inline_answer : (rows : List Row) (own : ℕ) (u : UnionDef) (key name : List ℕ) (n m : Node) (t : Data) → u.form ≡ UF.Inline key → passed_key rows own ≡ Some key
-    → C.Map ≡ node_kind t → Stands n t → ((d : Data) → Stands n d → Finds n (place_of d (index_of key d)) (entry_of d key) (Some m)) → ((d : Data) → Stands m d → Some name ≡ text_of d)
+    → C.Map ≡ node_kind t → HasData n t → ((d : Data) → HasData n d → Finds n (place_of d (index_of key d)) (entry_of d key) (Some m)) → ((d : Data) → HasData m d → Some name ≡ text_of d)
     → (o : Option TypeDef) → o ≡ Some (D.Union u) → (r : Result (ℕ × Piece) Why) → r ≡ member_of (P.Inline n own) (option_and_then (part_spelled name) o) → UnionAnswer rows u t r
 inline_answer rows own u key name n m t form passed map stands found text o known r same =
     let k = map_is t map in
-    let whole : Stands n (T.map k.0) = subst (Stands n) k.1 stands in
+    let whole : HasData n (T.map k.0) = subst (HasData n) k.1 stands in
     let v = value_of n m (place_of (T.map k.0) (index_of key (T.map k.0))) key k.0 (found (T.map k.0) whole) in
     let is : v.value ≡ T.text name = only_text_data v.value name (same_text_in v.value ∙ sym (text v.value v.stands)) in
     let there : value_at key (T.members_list k.0) ≡ Some (T.text name) = v.there ∙ ap Some is in

@@ -10,7 +10,7 @@ use Rattle.ild_schema.specs.declared.def.UnionForm.{UnionForm}
 use Rattle.ild_schema.specs.declared.def.UnionForm.TheVariants as UF
 use Rattle.ild_schema.specs.DataKinds.{union_has}
 use Rattle.ild_typed.specs.Causes.{why_of}
-use Rattle.ild_typed.specs.Kinds.{kind_of}
+use Rattle.ild_typed.specs.Kinds.{kind_word_of}
 use Rattle.ild_typed.specs.Named.{where_some}
 use Rattle.ild_typed.specs.Strings.{members_in}
 use Rattle.ild_typed.specs.UnionWhy.{is_discriminant, union_name, union_missing, union_count}
@@ -41,6 +41,6 @@ other_count n apart = by (nat_eq n 1) refl where
 -- another number of entries
 pub keyed_count : (u : UnionDef) (t : Data) (es : List (List ℕ × Data)) → u.form ≡ UF.Keyed → members_in t ≡ Some es → (length es ≡ 1 → ⊥) → why_of (D.Union u) t ≡ Some W.Count
 keyed_count u t es form is apart =
-    count_why u t (ap (λ (f : UnionForm). union_has f u.members (kind_of t)) form ∙ map_kind t es is)
+    count_why u t (ap (λ (f : UnionForm). union_has f u.members (kind_word_of t)) form ∙ map_kind t es is)
     (ap (λ (f : UnionForm). union_name f t) form) (ap (λ (f : UnionForm). union_missing f t) form)
     (ap (λ (f : UnionForm). union_count f t) form ∙ ap (where_some (λ (xs : List (List ℕ × Data)). not (nat_eq (length xs) 1))) is ∙ ap not (other_count (length es) apart))

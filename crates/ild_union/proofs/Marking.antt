@@ -14,11 +14,11 @@ use Rattle.ild_schema.specs.declared.row.Row.{Row}
 use Rattle.ild_schema.specs.declared.def.UnionDef.{UnionDef}
 use Rattle.ild_schema.specs.declared.def.UnionForm.{UnionForm}
 use Rattle.ild_schema.specs.DataKinds.{union_has}
-use Rattle.ild_schema.specs.Marks.{text_of as mark_text}
+use Rattle.ild_schema.specs.Marks.{mark_text}
 use Rattle.ild_schema.specs.Parts.{is_text, part_spelled}
 use Rattle.ild_typed.specs.Causes.{why_of}
 use Rattle.ild_typed.specs.Composed.{marked_form, member_form, union_form}
-use Rattle.ild_typed.specs.Kinds.{kind_of}
+use Rattle.ild_typed.specs.Kinds.{kind_word_of}
 use Rattle.ild_typed.specs.Named.{where_some}
 use Rattle.ild_typed.specs.UnionWhy.{is_discriminant, union_name, union_missing, union_count, union_prefix, union_member}
 use Rattle.ild_typed.specs.Why as W
@@ -31,7 +31,7 @@ use Rattle.ild_union.proofs.Order.{member_why}
 pub record IsTold (form : UnionForm) (t : Data) (text : List ℕ) (d : Data) : Type 0 where
   pub made : marked_form form d text ≡ Some t
   pub marked : (m : Member) → member_form form d m ≡ option_and_then (marked_form form d) (mark_text m.mark)
-  pub kind : (ms : List Member) → union_has form ms (kind_of t) ≡ true
+  pub kind : (ms : List Member) → union_has form ms (kind_word_of t) ≡ true
   pub name : union_name form t ≡ false
   pub missing : union_missing form t ≡ false
   pub count : union_count form t ≡ false

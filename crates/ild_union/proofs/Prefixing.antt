@@ -13,11 +13,11 @@ use Rattle.ild_schema.specs.declared.def.UnionDef.{UnionDef}
 use Rattle.ild_schema.specs.declared.def.UnionForm.{UnionForm}
 use Rattle.ild_schema.specs.declared.def.UnionForm.TheVariants as UF
 use Rattle.ild_schema.specs.DataKinds.{same_kind, union_has}
-use Rattle.ild_schema.specs.Marks.{text_of as mark_text}
+use Rattle.ild_schema.specs.Marks.{mark_text}
 use Rattle.ild_schema.specs.Prefixes.{begins}
 use Rattle.ild_text.specs.Prefix.{IsBehind, IsPrefixed, bytes_mark}
 use Rattle.ild_typed.specs.Causes.{why_of}
-use Rattle.ild_typed.specs.Kinds.{kind_of}
+use Rattle.ild_typed.specs.Kinds.{kind_word_of}
 use Rattle.ild_typed.specs.Named.{where_some}
 use Rattle.ild_typed.specs.Strings.{text_in, bytes_in}
 use Rattle.ild_typed.specs.UnionWhy.{union_name, union_missing, union_count, union_prefix}
@@ -62,7 +62,7 @@ pub no_text_prefix : (u : UnionDef) (t : Data) (s : List ℕ) → u.form ≡ UF.
     → ((n : ℕ) (rest : List ℕ) → IsPrefixed mark_text u.members s n rest → ⊥) → why_of (D.Union u) t ≡ Some W.Prefix
 no_text_prefix u t s form is none =
     let own : t ≡ T.text s = only_text_data t s (sym is) in
-    prefix_why u t (ap (λ (f : UnionForm). union_has f u.members (kind_of t)) form ∙ ap (λ d. same_kind K.Text (kind_of d)) own)
+    prefix_why u t (ap (λ (f : UnionForm). union_has f u.members (kind_word_of t)) form ∙ ap (λ d. same_kind K.Text (kind_word_of d)) own)
     (ap (λ (f : UnionForm). union_name f t) form) (ap (λ (f : UnionForm). union_missing f t) form) (ap (λ (f : UnionForm). union_count f t) form)
     (ap (λ (f : UnionForm). union_prefix f u.members t) form ∙ ap (union_prefix UF.StringPrefix u.members) own ∙ ap not (none_begins mark_text u.members s none))
 
@@ -72,6 +72,6 @@ pub no_bytes_prefix : (u : UnionDef) (t : Data) (s : List ℕ) → u.form ≡ UF
     → ((n : ℕ) (rest : List ℕ) → IsPrefixed bytes_mark u.members s n rest → ⊥) → why_of (D.Union u) t ≡ Some W.Prefix
 no_bytes_prefix u t s form is none =
     let own : t ≡ T.bytes s = only_bytes_data t s (sym is) in
-    prefix_why u t (ap (λ (f : UnionForm). union_has f u.members (kind_of t)) form ∙ ap (λ d. same_kind K.Bytes (kind_of d)) own)
+    prefix_why u t (ap (λ (f : UnionForm). union_has f u.members (kind_word_of t)) form ∙ ap (λ d. same_kind K.Bytes (kind_word_of d)) own)
     (ap (λ (f : UnionForm). union_name f t) form) (ap (λ (f : UnionForm). union_missing f t) form) (ap (λ (f : UnionForm). union_count f t) form)
     (ap (λ (f : UnionForm). union_prefix f u.members t) form ∙ ap (union_prefix UF.BytesPrefix u.members) own ∙ ap not (none_begins bytes_mark u.members s none))

@@ -1,6 +1,6 @@
 //! A union whose discriminant stands among the entries of its member.
 ghost use Rattle.std.specs.Prelude.{◌≡◌, ◌<◌, IfOk, length};
-ghost use Rattle.ild_cbor.specs.Nodes.{Stands};
+ghost use Rattle.ild_cbor.specs.Nodes.{HasData};
 ghost use Rattle.ild_cbor.specs.declared.piece.Piece.TheVariants as P;
 ghost use Rattle.ild_data.specs.Data.{Data};
 ghost use Rattle.ild_layer_piece.specs.Pieces.{IsNumbered, passed_key};
@@ -25,7 +25,7 @@ pub(crate) fn inline<'b>(
 ) -> Result<(u32, Piece<'b>), Why>
     requires within { ty.0 < length acc.now }
     requires numbered { own.0 < length acc.now }
-    ensures answer { (t : Data) (u : UnionDef) → Stands node.now t → def_at acc.now ty.0 ≡ Some (D.Union u)
+    ensures answer { (t : Data) (u : UnionDef) → HasData node.now t → def_at acc.now ty.0 ≡ Some (D.Union u)
         → u.form ≡ F.Inline key.now → passed_key acc.now own.0 ≡ Some key.now → UnionAnswer acc.now u t result }
     ensures within { IfOk result (λ p. IsPartOf acc.now ty.0 p.0) }
     ensures numbered { IfOk result (λ p. IsNumbered acc.now p.1) }

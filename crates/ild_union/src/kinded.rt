@@ -4,7 +4,7 @@ ghost use Rattle.std.specs.List.{position_from};
 ghost use Rattle.ild_data.specs.Data.{Data};
 ghost use Rattle.ild_layer_piece.specs.Pieces.{StandsFor};
 ghost use Rattle.ild_schema.specs.DataKinds.{is_marked, same_kind};
-ghost use Rattle.ild_schema.specs.Marks.{kind_of};
+ghost use Rattle.ild_schema.specs.Marks.{mark_kind};
 ghost use Rattle.ild_schema.specs.declared.def.UnionForm.TheVariants as F;
 ghost use Rattle.ild_schema.specs.declared.row.Row.{Row};
 ghost use Rattle.ild_union.specs.inside.Answers.{UnionAnswer, word_of};
@@ -35,7 +35,7 @@ fn same_word(a: KindWord, b: KindWord) -> bool
 }
 
 fn is_marked(mark: &Mark, word: KindWord) -> bool
-    ensures { result ≡ is_marked word (kind_of mark.now) }
+    ensures { result ≡ is_marked word (mark_kind mark.now) }
 {
     match mark {
         Mark::Kind(own) => same_word(*own, word),
@@ -45,7 +45,7 @@ fn is_marked(mark: &Mark, word: KindWord) -> bool
 
 // The first member of a kind, of the eight that an accepted schema has at most: each is of another kind.
 fn number_of(members: &[Member], word: KindWord) -> Option<usize>
-    ensures first { result ≡ position_from (λ m. is_marked word (kind_of m.mark)) 0 members.now }
+    ensures first { result ≡ position_from (λ m. is_marked word (mark_kind m.mark)) 0 members.now }
     ensures within { IfSome result (λ n. n < length members.now) }
 {
     members

@@ -27,7 +27,7 @@ use Rattle.ild_typed.specs.StructWhy.{must_stand}
 use Rattle.ild_typed.proofs.OfKinds.{any_at}
 use Rattle.ild_value_meaning.specs.Names.{slot_named, are_named}
 use Rattle.ild_value_meaning.specs.MeantRead.{meant, meant_items, readings, list_by, map_by, and_others, and_pairs, pairs_by, and_fields, field_of, or_implicit, fields_by, if_named, member_read}
-use Rattle.ild_value_meaning.specs.Mismatch.{Rule, Name, Missing, Member, Key, breaks_name, breaks_missing, breaks_member, breaks_key, is_member, lacks, parts_named, with_part, list_parts, map_parts, parts_of, part_at}
+use Rattle.ild_value_meaning.specs.Mismatch.{Rule, Name, Missing, Member, Key, breaks_name, breaks_missing, breaks_member, breaks_key, is_member, lacks, parts_named, with_part, list_parts, map_parts, parts_of, part_by_numbers}
 use Rattle.ild_value_meaning.proofs.Meanings.{reading_at}
 use Rattle.ild_value_meaning.proofs.Mismatched.{found_at, AreFirst}
 use Rattle.ild_value.specs.declared.fault.ShownErr.{ShownErr}
@@ -48,7 +48,7 @@ beneath rows slot t i p ty rule e b = record {
       record {
         at = i ∷ m.at;
         part = m.part;
-        there = ap (option_and_then (λ r. part_at rows r m.at)) e ∙ m.there;
+        there = ap (option_and_then (λ r. part_by_numbers rows r m.at)) e ∙ m.there;
         type = m.type;
         broken = m.broken;
       };

@@ -20,7 +20,7 @@ use Rattle.ild_splice_changes.proofs.Maps.{own_text, below_absent}
 use Rattle.ild_typed.specs.Segment.{member_named}
 use Rattle.ild_value_meaning.specs.Names.{slot_named, are_named, enum_named}
 use Rattle.ild_value_meaning.specs.MeantRead.{meant, meant_items, readings, Reading, scalar_by, text_by, link_by, list_by, map_by, and_others, and_pairs, pairs_by, and_fields, field_of, or_implicit, fields_by, if_named, member_read, member_by}
-use Rattle.ild_value_meaning.specs.Mismatch.{Rule, Kind, Name, Missing, Member as MemberRule, Key, shows_bool, shows_int, shows_text, shows_bytes, shows_link, shows_list, shows_map, is_kind, breaks_name, lacks, breaks_missing, is_member, breaks_member, breaks_key, breaks, with_part, parts_named, member_slot, list_parts, map_parts, parts_of, part_at}
+use Rattle.ild_value_meaning.specs.Mismatch.{Rule, Kind, Name, Missing, Member as MemberRule, Key, shows_bool, shows_int, shows_text, shows_bytes, shows_link, shows_list, shows_map, is_kind, breaks_name, lacks, breaks_missing, is_member, breaks_member, breaks_key, breaks, with_part, parts_named, member_slot, list_parts, map_parts, parts_of, part_by_numbers}
 use Rattle.ild_value_meaning.proofs.Meanings.{reading_at}
 use Rattle.ild_value_meaning.proofs.MeantTyped.{tree_at}
 
@@ -344,11 +344,11 @@ module _ (rows : List Row) (is_key : ℕ → List ℕ → Bool) where
   part_tree (D.map ms) slot i p tree h = map_tree (form_of rows slot) ms i p tree h
   part_tree (D.link s) slot i p tree h = absurd (none-some p h)
 
-  below_none : (o : Option (Slot × Data)) (q : List ℕ) (part : Slot × Data) → option_and_then (λ r. part_at rows r q) o ≡ Some part → (r : Slot × Data) × (o ≡ Some r) × (part_at rows r q ≡ Some part)
+  below_none : (o : Option (Slot × Data)) (q : List ℕ) (part : Slot × Data) → option_and_then (λ r. part_by_numbers rows r q) o ≡ Some part → (r : Slot × Data) × (o ≡ Some r) × (part_by_numbers rows r q ≡ Some part)
   below_none None q part h = absurd (none-some part h)
   below_none (Some r) q part h = (r, refl, h)
 
-  pub at_none : (q : List ℕ) (p part : Slot × Data) → IsTree p.1 → part_at rows p q ≡ Some part → M part.0 part.1 ≡ None → M p.0 p.1 ≡ None
+  pub at_none : (q : List ℕ) (p part : Slot × Data) → IsTree p.1 → part_by_numbers rows p q ≡ Some part → M part.0 part.1 ≡ None → M p.0 p.1 ≡ None
   at_none [] p part tree h n = let same : p ≡ part = same_Some p part h in (λ i. M ((same i).0) ((same i).1)) ∙ n
   at_none (i ∷ q) p part tree h n =
       let x = below_none (slice_get (parts_of rows p.0 p.1) i) q part h in

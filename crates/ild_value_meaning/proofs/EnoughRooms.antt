@@ -19,7 +19,7 @@ use Rattle.ild_schema.proofs.Legibly.{legible}
 use Rattle.ild_typed.specs.Hamt.{alone}
 use Rattle.ild_typed.specs.Represented.{represented}
 use Rattle.ild_typed.specs.Fits.{ValueFits, FitsPast, Fits, IsTextOf}
-use Rattle.ild_typed.specs.Layers.{Shows}
+use Rattle.ild_typed.specs.Layers.{RepresentsSome}
 use Rattle.ild_typed.specs.OfType.{OfType}
 use Rattle.ild_typed.specs.Schema.{IsSchema}
 use Rattle.ild_typed.proofs.OneValue.{one_value, alone_exact, plain_safe}
@@ -150,7 +150,7 @@ module _ (rows : List Row) (schema : IsSchema rows) where
 
 -- rooms by text in which each text of a type is found
 abbrev pub AreRoomsEnough : List Row → (List ℕ → ℕ) → Type 0
-AreRoomsEnough rows room_of = (key : TypeNo) (k : List ℕ) → IsUtf8 k → IsTextOf rows key k → Shows (Fits rows (room_of k)) rows (plainly key) (T.text k)
+AreRoomsEnough rows room_of = (key : TypeNo) (k : List ℕ) → IsUtf8 k → IsTextOf rows key k → RepresentsSome (Fits rows (room_of k)) rows (plainly key) (T.text k)
 
 -- so much room for a text
 abbrev pub room_for : List Row → List ℕ → ℕ

@@ -23,7 +23,7 @@ use Rattle.ild_schema.specs.Slots.{plainly}
 use Rattle.ild_schema.specs.Value.{Value, null, integer, text, map, struct, union, enum, unit, pairs_of, optionals_of}
 use Rattle.ild_typed.specs.Shown.{shown}
 use Rattle.ild_value_meaning.specs.MeantRead.{meant}
-use Rattle.ild_value_meaning.specs.Mismatch.{Rule, Kind, Name, Missing, Member as MemberRule, Key, breaks, part_at}
+use Rattle.ild_value_meaning.specs.Mismatch.{Rule, Kind, Name, Missing, Member as MemberRule, Key, breaks, part_by_numbers}
 
 -- the prelude and one type, which is number 8
 abbrev schema : TypeDef → List Row
@@ -156,7 +156,7 @@ map_key = refl
 part_fails : means either (data_map ((codes "String", i 4) ∷ [])) ≡ None
 part_fails = refl
 
-failing_part : part_at (schema either) (one_type, data_map ((codes "String", i 4) ∷ [])) (0 ∷ []) ≡ Some (plainly (number 7), i 4)
+failing_part : part_by_numbers (schema either) (one_type, data_map ((codes "String", i 4) ∷ [])) (0 ∷ []) ≡ Some (plainly (number 7), i 4)
 failing_part = refl
 
 failing_rule : breaks (schema either) is_key (plainly (number 7)) (i 4) Kind ≡ true

@@ -22,7 +22,7 @@ use Rattle.ild_typed.specs.Segment.{member_named}
 use Rattle.ild_value_meaning.specs.Names.{slot_named, are_named, enum_named}
 use Rattle.ild_value_meaning.specs.MeantRead.{meant, meant_items, readings, Reading, scalar_by, text_by, link_by, list_by, map_by, and_others, and_pairs, pairs_by, and_fields, field_of, or_implicit, fields_by, if_named, member_read, member_by}
 use Rattle.ild_value_meaning.specs.MeantLaws.{NothingWhereBroken}
-use Rattle.ild_value_meaning.specs.Mismatch.{Rule, Kind, Name, Missing, Member as MemberRule, Key, shows_bool, shows_int, shows_text, shows_bytes, shows_link, shows_list, shows_map, breaks_name, lacks, breaks_missing, is_member, breaks_member, breaks_key, breaks, with_part, parts_named, member_slot, list_parts, map_parts, parts_of, part_at, IsMismatch}
+use Rattle.ild_value_meaning.specs.Mismatch.{Rule, Kind, Name, Missing, Member as MemberRule, Key, shows_bool, shows_int, shows_text, shows_bytes, shows_link, shows_list, shows_map, breaks_name, lacks, breaks_missing, is_member, breaks_member, breaks_key, breaks, with_part, parts_named, member_slot, list_parts, map_parts, parts_of, part_by_numbers, IsMismatch}
 use Rattle.ild_value_meaning.proofs.Broken.{broken_none, at_none}
 use Rattle.ild_value_meaning.proofs.Meanings.{reading_at}
 use Rattle.ild_value_meaning.proofs.Told.{AreProper, HasProperFields, told}
@@ -155,7 +155,7 @@ module _ (rows : List Row) (is_key : ℕ → List ℕ → Bool) (proper : HasPro
     record {
       at = i ∷ (m.2).at;
       part = (m.2).part;
-      there = ap (option_and_then (λ r. part_at rows r (m.2).at)) e ∙ (m.2).there;
+      there = ap (option_and_then (λ r. part_by_numbers rows r (m.2).at)) e ∙ (m.2).there;
       type = (m.2).type;
       broken = (m.2).broken;
     },

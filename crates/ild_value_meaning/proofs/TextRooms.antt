@@ -30,7 +30,7 @@ use Rattle.ild_schema.specs.DataKinds.{same_kind}
 use Rattle.ild_schema.specs.Delims.{HasDelims, Delims}
 use Rattle.ild_schema.specs.Fitting.{ImplicitFits, FittingType}
 use Rattle.ild_schema.specs.Hex.{bytes_of_hex}
-use Rattle.ild_schema.specs.Marks.{field_text, text_of as mark_text, kind_of as mark_kind}
+use Rattle.ild_schema.specs.Marks.{field_text, mark_text, mark_kind}
 use Rattle.ild_schema.specs.Rules.{is_of}
 use Rattle.ild_schema.specs.Slots.{form_of, plainly}
 use Rattle.ild_schema.specs.Value as V
@@ -44,11 +44,11 @@ use Rattle.ild_typed.specs.Strings.{text_in, texts_in, text_pairs, bytes_in, mem
 use Rattle.ild_typed.specs.Texts.{join, join_pairs}
 use Rattle.ild_typed.specs.Composed.{composed, struct_form, union_form, member_form, marked_form, inlined}
 use Rattle.ild_typed.specs.Hamt.{alone}
-use Rattle.ild_typed.specs.Kinds.{kind_of}
+use Rattle.ild_typed.specs.Kinds.{kind_word_of}
 use Rattle.ild_typed.specs.Represented.{represented, represented_pairs, represented_fields}
 use Rattle.ild_typed.specs.Levels.{struct_levels}
 use Rattle.ild_typed.specs.Fits.{FormFits, ValueFits, FitsPast, Fits}
-use Rattle.ild_typed.specs.Layers.{Shows, FieldsFit}
+use Rattle.ild_typed.specs.Layers.{RepresentsSome, FieldsFit}
 use Rattle.ild_typed.specs.OfType.{OfType}
 use Rattle.ild_typed.specs.Schema.{IsSchema}
 use Rattle.ild_typed.proofs.Basics.{then_from, map_from, true_from}
@@ -203,8 +203,8 @@ module _ (rows : List Row) (room : ℕ) (k : List ℕ) (n : ℕ) (low : Lowers r
       )
 
   pairs_low : (key : TypeNo) (value : Slot) (ps : Pairs) (es : List (List ℕ × Data)) → represented_pairs alone rows value ps ≡ Some es → AllByRecursion (IsEntryWithin k) es
-      → AllByRecursion (λ p. IsUtf8 p.0 × Shows (OfType rows) rows (plainly key) (T.text p.0) × OfType rows value p.1) (pairs_list ps)
-      → AllByRecursion (λ p. IsUtf8 p.0 × Shows (Fits rows room) rows (plainly key) (T.text p.0) × Fits rows room value p.1) (pairs_list ps)
+      → AllByRecursion (λ p. IsUtf8 p.0 × RepresentsSome (OfType rows) rows (plainly key) (T.text p.0) × OfType rows value p.1) (pairs_list ps)
+      → AllByRecursion (λ p. IsUtf8 p.0 × RepresentsSome (Fits rows room) rows (plainly key) (T.text p.0) × Fits rows room value p.1) (pairs_list ps)
   pairs_low key value V.no_pairs es e all typed = tt
   pairs_low key value (V.pair q w ps) es e all typed =
       let b = both_from (option_map {U = List ℕ × Data} (λ d. (q, d)) (represented alone rows value w)) (represented_pairs alone rows value ps) es e in
@@ -219,8 +219,8 @@ module _ (rows : List Row) (room : ℕ) (k : List ℕ) (n : ℕ) (low : Lowers r
   -- the text that a union's member has
   member_text : (form : UnionForm) (d : Data) (m : Member) → member_form form d m ≡ Some (T.text k) → IsDataWithin k d
   member_text UF.Kinded d m e =
-      let x = then_from (λ w. cond (same_kind w (kind_of d)) (Some d) None) (mark_kind m.mark) (T.text k) e in
-      (k, (true_from (same_kind x.item (kind_of d)) d (T.text k) x.made).1, inr refl)
+      let x = then_from (λ w. cond (same_kind w (kind_word_of d)) (Some d) None) (mark_kind m.mark) (T.text k) e in
+      (k, (true_from (same_kind x.item (kind_word_of d)) d (T.text k) x.made).1, inr refl)
   member_text UF.StringPrefix d m e =
       let x = then_from (marked_form UF.StringPrefix d) (mark_text m.mark) (T.text k) e in
       let y = map_from (λ s. T.text (x.item ++ s)) (text_in d) (T.text k) x.made in

@@ -19,7 +19,7 @@ use Rattle.ild_splice_changes.proofs.Maps.{own_text, other_is}
 use Rattle.ild_typed.specs.Layer as L
 use Rattle.ild_typed.specs.Layer.{Layer, as_map, as_hamt}
 use Rattle.ild_schema.specs.Slots.{plainly}
-use Rattle.ild_typed.specs.Layers.{IsNotNull, AreKeysApart, AreKeys, Shows, FieldsFit, EntriesFit}
+use Rattle.ild_typed.specs.Layers.{IsNotNull, AreKeysApart, AreKeys, RepresentsSome, FieldsFit, EntriesFit}
 use Rattle.ild_typed.specs.Fits.{IsTextOf}
 use Rattle.ild_typed.specs.Holder.{is_paired}
 use Rattle.ild_value_meaning.specs.Meant.{is_null}
@@ -89,13 +89,13 @@ module _ (rows : List Row) (is_key : ℕ → List ℕ → Bool) (keys : TestsKey
   Of s v = OfType rows s v
 
   -- keys
-  key_there : (key : TypeNo) (k : List ℕ) → IsUtf8 k → Shows Of rows (plainly key) (T.text k) → is_key key.0 k ≡ true
+  key_there : (key : TypeNo) (k : List ℕ) → IsUtf8 k → RepresentsSome Of rows (plainly key) (T.text k) → is_key key.0 k ≡ true
   key_there key k u (v, fits, shows) = (keys key k).1 (u, (fits.0, (v, fits.1, shows)))
 
-  there_key : (key : TypeNo) (k : List ℕ) → is_key key.0 k ≡ true → IsUtf8 k × Shows Of rows (plainly key) (T.text k)
+  there_key : (key : TypeNo) (k : List ℕ) → is_key key.0 k ≡ true → IsUtf8 k × RepresentsSome Of rows (plainly key) (T.text k)
   there_key key k h = let x = (keys key k).0 h in (x.0, (shown x.1))
     where
-      shown : IsTextOf rows key k → Shows Of rows (plainly key) (T.text k)
+      shown : IsTextOf rows key k → RepresentsSome Of rows (plainly key) (T.text k)
       shown (room, (v, fits, shows)) = (v, (room, fits), shows)
 
   -- from what fits to the parts
@@ -133,7 +133,7 @@ module _ (rows : List Row) (is_key : ℕ → List ℕ → Bool) (keys : TestsKey
     values_to V.no_values s h = tt
     values_to (V.value v vs) s h = (to_parts v s h.0, values_to vs s h.1)
 
-    pairs_to : (ps : Pairs) (key : TypeNo) (s : Slot) → AllByRecursion (λ p. IsUtf8 p.0 × Shows Of rows (plainly key) (T.text p.0) × Of s p.1) (pairs_list ps) → EntriesByParts rows is_key key.0 s ps
+    pairs_to : (ps : Pairs) (key : TypeNo) (s : Slot) → AllByRecursion (λ p. IsUtf8 p.0 × RepresentsSome Of rows (plainly key) (T.text p.0) × Of s p.1) (pairs_list ps) → EntriesByParts rows is_key key.0 s ps
     pairs_to V.no_pairs key s h = tt
     pairs_to (V.pair k v ps) key s h = (key_there key k (h.0).0 (h.0).1, to_parts v s (h.0).2, pairs_to ps key s h.1)
 
@@ -170,7 +170,7 @@ module _ (rows : List Row) (is_key : ℕ → List ℕ → Bool) (keys : TestsKey
     values_from V.no_values s h = tt
     values_from (V.value v vs) s h = (from_parts v s h.0, values_from vs s h.1)
 
-    pairs_from : (ps : Pairs) (key : TypeNo) (s : Slot) → EntriesByParts rows is_key key.0 s ps → AllByRecursion (λ p. IsUtf8 p.0 × Shows Of rows (plainly key) (T.text p.0) × Of s p.1) (pairs_list ps)
+    pairs_from : (ps : Pairs) (key : TypeNo) (s : Slot) → EntriesByParts rows is_key key.0 s ps → AllByRecursion (λ p. IsUtf8 p.0 × RepresentsSome Of rows (plainly key) (T.text p.0) × Of s p.1) (pairs_list ps)
     pairs_from V.no_pairs key s h = tt
     pairs_from (V.pair k v ps) key s h = let x = there_key key k h.0 in ((x.0, x.1, from_parts v s h.1), pairs_from ps key s h.2)
 

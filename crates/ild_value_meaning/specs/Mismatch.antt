@@ -156,14 +156,14 @@ parts_of rows slot (D.map ms) = map_parts (form_of rows slot) ms
 parts_of rows slot (D.link s) = []
 
 -- the part to which numbers of parts lead, from the top down
-abbrev pub part_at : List Row → Slot × Data → List ℕ → Option (Slot × Data)
-part_at rows p [] = Some p
-part_at rows p (i ∷ q) = option_and_then (λ r. part_at rows r q) (slice_get (parts_of rows p.0 p.1) i)
+abbrev pub part_by_numbers : List Row → Slot × Data → List ℕ → Option (Slot × Data)
+part_by_numbers rows p [] = Some p
+part_by_numbers rows p (i ∷ q) = option_and_then (λ r. part_by_numbers rows r q) (slice_get (parts_of rows p.0 p.1) i)
 
 -- a part of the data breaks this rule at this type
 pub record IsMismatch (rows : List Row) (is_key : ℕ → List ℕ → Bool) (slot : Slot) (t : Data) (ty : TypeNo) (rule : Rule) : Type 0 where
   pub at : List ℕ
   pub part : Slot × Data
-  pub there : part_at rows (slot, t) at ≡ Some part
+  pub there : part_by_numbers rows (slot, t) at ≡ Some part
   pub type : (part.0).ty ≡ ty
   pub broken : breaks rows is_key part.0 part.1 rule ≡ true

@@ -20,7 +20,7 @@ use Rattle.ild_schema.specs.declared.def.TypeDef.TheVariants as D
 use Rattle.ild_schema.specs.declared.def.UnionDef.{UnionDef}
 use Rattle.ild_schema.specs.declared.number.Slot.{Slot}
 use Rattle.ild_schema.specs.declared.row.Row.{Row}
-use Rattle.ild_struct.specs.Parts.{HasParts, IsFieldOf, IsPart, fields_of}
+use Rattle.ild_struct.specs.Parts.{HasParts, IsFieldOf, IsFieldPart, fields_of}
 use Rattle.ild_struct.specs.declared.part.Part.{Part}
 use Rattle.ild_struct.specs.declared.parts.StructParts.{StructParts}
 use Rattle.ild_typed.specs.At.{seen}
@@ -30,7 +30,7 @@ use Rattle.ild_typed.specs.Pieces.{is_null_there}
 use Rattle.ild_view.proofs.Handing.{part_view}
 use Rattle.ild_view.proofs.Parting.{Beside}
 use Rattle.ild_view.proofs.Reading.{got_at, part_low, struct_field, union_member}
-use Rattle.ild_view.specs.Front.{HasFront}
+use Rattle.ild_view.specs.Front.{BodyHasFront}
 use Rattle.ild_view.specs.Parts.{HandsOutMember, field_named, member_held}
 use Rattle.ild_view.specs.Safe.{is_safe}
 use Rattle.ild_view.specs.View.{body_of, slot_of, table_of}
@@ -39,7 +39,7 @@ use Rattle.ild_view.specs.declared.view.View.{View}
 
 pub record FieldFound (rows : List Row) (s : Slot) (f : Value) (name : List ℕ) (g : Field) (part : Part) : Type 0 where
   pub held : Option Data
-  pub is : IsPart rows g held part
+  pub is : IsFieldPart rows g held part
   pub beside : Beside rows g.slot held (field_named (seen rows (s, f)) name)
 
 -- the place of a field that was looked up
@@ -64,12 +64,12 @@ module _ (rows : List Row) (legible : IsLegible rows) (s : Slot) (safe : is_safe
       let is : Some g ≡ Some x.field = sym there ∙ ap (λ (fs : List Field). slice_get fs n) (sym own) ∙ x.there in
       record {
         held = x.held;
-        is = subst (λ (k : Field). IsPart rows k x.held part) (sym (same_Some g x.field is)) x.is;
+        is = subst (λ (k : Field). IsFieldPart rows k x.held part) (sym (same_Some g x.field is)) x.is;
         beside = struct_field rows legible s safe room f t front some def known name n h.0 g x.held (found ∙ ap (λ (k : ℕ). option_and_then (part_named name) (def_at rows k)) same) h.1.layered there x.at;
       }
 
   pub member_front : (def : UnionDef) → form_of rows s ≡ Some (D.Union def) → (n : ℕ) (m : Member) (part : Piece) → slice_get def.members n ≡ Some m → (a : (d : Data) × StandsFor rows part d × Layered rows s.ty.0 t (L.union n d))
-      → HasFront rows (plainly m.ty) (B.Held part)
+      → BodyHasFront rows (plainly m.ty) (B.Held part)
   member_front def known n m part got a =
       let x = union_member rows legible s safe room f t front some def known n m a.0 a.2 got in
       record { value = x.0; room = x.2.typed.0; tree = a.0; stands = a.1; front = record { fits = x.2.typed.1; tree = x.2.tree } }

@@ -27,7 +27,7 @@ use Rattle.ild_typed.specs.Fits.{Front}
 use Rattle.ild_typed.specs.Hamt.{alone}
 use Rattle.ild_typed.specs.Holder.{elements}
 use Rattle.ild_typed.specs.Layer as L
-use Rattle.ild_typed.specs.Layers.{FieldsFit, Shows}
+use Rattle.ild_typed.specs.Layers.{FieldsFit, RepresentsSome}
 use Rattle.ild_data.specs.Data.{text}
 use Rattle.ild_typed.specs.OfType.{OfType}
 use Rattle.ild_typed.specs.Pieces.{is_null_there}
@@ -154,7 +154,7 @@ module _ (rows : List Row) (clear : IsClear rows) (s : Slot) (safe : is_safe row
       let x = front_map rows clear s safe room f t front some key key_at value at form plain known in
       subst (λ h. Beside rows value (value_at k x.parts) (entry_at h k)) (sym (seen_map rows clear s safe room f t front some key key_at value at form plain known))
       (entry_beside rows value x.items x.parts x.there
-      (all_then (λ (p : List ℕ × Value). IsUtf8 p.0 × Shows (OfType rows) rows (plainly key) (text p.0) × OfType rows value p.1) (λ (p : List ℕ × Value). OfType rows value p.1) (pairs_list x.items) (λ p h. h.2) x.fit.1) k)
+      (all_then (λ (p : List ℕ × Value). IsUtf8 p.0 × RepresentsSome (OfType rows) rows (plainly key) (text p.0) × OfType rows value p.1) (λ (p : List ℕ × Value). OfType rows value p.1) (pairs_list x.items) (λ p h. h.2) x.fit.1) k)
 
   pub any_entry_there : form_of rows anything ≡ Some D.Any → form_of rows s ≡ Some D.Any → (k : List ℕ) → Beside rows anything (option_and_then (value_at k) (members_in t)) (entry_at (seen rows (s, f)) k)
   any_entry_there any known k =

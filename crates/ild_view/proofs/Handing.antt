@@ -9,7 +9,7 @@ use Rattle.ild_schema.specs.declared.row.Row.{Row}
 use Rattle.ild_typed.specs.At.{InSlot}
 use Rattle.ild_typed.specs.Fits.{Front}
 use Rattle.ild_view.specs.Body.{BodyStands}
-use Rattle.ild_view.specs.Front.{HasFront}
+use Rattle.ild_view.specs.Front.{BodyHasFront}
 use Rattle.ild_view.specs.Itself.{Embodies}
 use Rattle.ild_view.specs.Parts.{HandsOut, IsPartView}
 use Rattle.ild_view.specs.View.{body_of, slot_of, table_of}
@@ -30,7 +30,7 @@ held_embodied rows (Some d) None h = absurd h
 
 module _ (rows : List Row) (u : Slot) where
   -- a body for the data is one for the part
-  pub has_front : (o : Option Data) (q : Option InSlot) (b : Body) → Embodies rows o (Some b) → Beside rows u o q → HasFront rows u b
+  pub has_front : (o : Option Data) (q : Option InSlot) (b : Body) → Embodies rows o (Some b) → Beside rows u o q → BodyHasFront rows u b
   has_front None q b h k = absurd h
   has_front (Some x) None b h k = absurd k
   has_front (Some x) (Some q) b h k = record { value = q.1; room = k.1.typed.0; tree = x; stands = h; front = fronted rows u q.1 x k.1 }

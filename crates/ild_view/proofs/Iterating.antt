@@ -4,7 +4,7 @@ use Rattle.std.specs.Borrow.{Bor}
 use Rattle.ild_data.specs.Data as T
 use Rattle.ild_data.specs.Data.{Data, Items, items_list}
 use Rattle.ild_data.proofs.Lists.{items_list-items_of}
-use Rattle.ild_cbor.specs.Nodes.{Stands}
+use Rattle.ild_cbor.specs.Nodes.{HasData}
 use Rattle.ild_cbor.specs.Steps.{HasItems, ItemsGive}
 use Rattle.ild_cbor.specs.declared.items.Items.{Items as ItemsLeft}
 use Rattle.ild_cbor.specs.declared.node.Node.{Node}
@@ -22,7 +22,7 @@ use Rattle.ild_typed.specs.Holder.{Holder}
 use Rattle.ild_view.proofs.Ordering.{FormKeyed, ListsBeside, MapsBeside}
 use Rattle.ild_view.specs.Beside.{AreBeside, AreKeyed, IsBeside}
 use Rattle.ild_view.specs.Body.{BodyStands}
-use Rattle.ild_view.specs.Front.{HasFront}
+use Rattle.ild_view.specs.Front.{BodyHasFront}
 use Rattle.ild_view.specs.Iterates.{EntriesStep, EntryFirst, FindsEntries, FindsItems, HasEntriesLeft, HasItemsLeft, ItemFirst, ItemsStep}
 use Rattle.ild_view.specs.Left.{HasElements, HasEntries, SomeElements, SomeEntries}
 use Rattle.ild_view.specs.Ordered.{entries_in}
@@ -38,7 +38,7 @@ use Rattle.ild_view.specs.declared.view.View.{View}
 
 -- ---- a view of a part beside its data
 
-beside_front : (rows : List Row) (u : Slot) (q : InSlot) (d : Data) (b : Body) → BodyStands rows b d → IsBeside rows u q d → HasFront rows u b
+beside_front : (rows : List Row) (u : Slot) (q : InSlot) (d : Data) (b : Body) → BodyStands rows b d → IsBeside rows u q d → BodyHasFront rows u b
 beside_front rows u q d b stands h = record { value = q.1; room = h.room; tree = d; stands = stands; front = h.front }
 
 beside_view : (rows : List Row) (u : Slot) (q : InSlot) (d : Data) (b : Body) (v : View) → BodyStands rows b d → IsBeside rows u q d → table_of v ≡ rows → slot_of v ≡ u → body_of v ≡ b → IsPartView rows q v
@@ -62,7 +62,7 @@ module _ (rows : List Row) (u : Slot) (s after : ItemsLeft) where
       later : List InSlot
       is : qs ≡ part ∷ later
       one : Data
-      stands : Stands n one
+      stands : HasData n one
       beside : IsBeside rows u part one
       left : HasElements rows u after later
 
@@ -80,7 +80,7 @@ module _ (rows : List Row) (u : Slot) (s after : ItemsLeft) where
         let x = first_of qs h in
         subst (λ ps. ItemFirst rows u ps (Some (v, after))) (sym x.is) (beside_view rows u x.part x.one (B.Held (Q.Node n)) v x.stands x.beside table slot body, x.left)
 
-    pub element_front : SomeElements rows u s → HasFront rows u (B.Held (Q.Node n))
+    pub element_front : SomeElements rows u s → BodyHasFront rows u (B.Held (Q.Node n))
     element_front h = let x = first_of h.of h.has in beside_front rows u x.part x.one (B.Held (Q.Node n)) x.stands x.beside
 
     pub elements_behind : SomeElements rows u s → SomeElements rows u after
@@ -150,7 +150,7 @@ module _ (rows : List Row) (u : Slot) (rest : EntriesLeft) where
         let x = first_keyed qs h in
         subst (λ ps. EntryFirst rows u ps (Some (k, v, after))) (sym x.is) (x.key, beside_view rows u x.part.1 x.one (B.Held p) v x.stands x.beside table slot body, x.left)
 
-    pub keyed_front : SomeEntries rows u rest → HasFront rows u (B.Held p)
+    pub keyed_front : SomeEntries rows u rest → BodyHasFront rows u (B.Held p)
     keyed_front h = let x = first_keyed h.of h.has in beside_front rows u x.part.1 x.one (B.Held p) x.stands x.beside
 
     pub keyed_behind : SomeEntries rows u rest → SomeEntries rows u after

@@ -27,7 +27,7 @@ use Rattle.ild_typed.specs.At.{InSlot, seen}
 use Rattle.ild_typed.specs.Fits.{Front}
 use Rattle.ild_typed.specs.Hamt.{alone}
 use Rattle.ild_typed.specs.Holder.{Holder, any_holder, nothing}
-use Rattle.ild_typed.specs.Layers.{Shows}
+use Rattle.ild_typed.specs.Layers.{RepresentsSome}
 use Rattle.ild_typed.specs.Named.{items_in}
 use Rattle.ild_typed.specs.OfType.{OfType}
 use Rattle.ild_typed.specs.Pieces.{is_null_there}
@@ -187,7 +187,7 @@ module _ (rows : List Row) (legible : IsLegible rows) (s : Slot) (safe : is_safe
       let x = front_map rows legible.clear s safe room f t front some key key_at value at form plain known in
       let there = seen_map rows legible.clear s safe room f t front some key key_at value at form plain known in
       let beside = keyed_beside rows value x.items x.parts x.there
-      (all_then (λ (p : List ℕ × Value). IsUtf8 p.0 × Shows (OfType rows) rows (plainly key) (T.text p.0) × OfType rows value p.1) (λ (p : List ℕ × Value). OfType rows value p.1) (pairs_list x.items) (λ p h. h.2) x.fit.1) in
+      (all_then (λ (p : List ℕ × Value). IsUtf8 p.0 × RepresentsSome (OfType rows) rows (plainly key) (T.text p.0) × OfType rows value p.1) (λ (p : List ℕ × Value). OfType rows value p.1) (pairs_list x.items) (λ p h. h.2) x.fit.1) in
       record {
         parts = x.parts;
         shows = shows_map form x.parts t (legible.clear.types (base rows s.ty.0) d known) (legible.delims (base rows s.ty.0) d known) plain x.made;

@@ -1,6 +1,6 @@
 //! The check of an item against a slot.
 ghost use Rattle.std.specs.Prelude.{◌≡◌, ◌<◌, IfErr, length, true};
-ghost use Rattle.ild_cbor.specs.Nodes.{Stands};
+ghost use Rattle.ild_cbor.specs.Nodes.{HasData};
 ghost use Rattle.ild_data.specs.Data.{Data};
 ghost use Rattle.ild_view.specs.Safe.{is_safe};
 ghost use Rattle.ild_view_walk.specs.Told.{TellsPlace};
@@ -29,8 +29,8 @@ impl<'b> View<'b> {
     ) -> Result<View<'b>, ViewErr>
         requires within { slot.ty.0 < length acc.now }
         requires safe { is_safe acc.now slot ≡ true }
-        ensures views { (t : Data) → Stands node.entry t → Views acc.now room slot node.entry t result }
-        ensures place { (t : Data) → Stands node.entry t → IfErr result (TellsPlace acc.now room slot node.entry t) }
+        ensures views { (t : Data) → HasData node.entry t → Views acc.now room slot node.entry t result }
+        ensures place { (t : Data) → HasData node.entry t → IfErr result (TellsPlace acc.now room slot node.entry t) }
     {
         match check_item(alloc, acc, slot, node, room) {
             Ok(()) => Ok(View {

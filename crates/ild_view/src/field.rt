@@ -7,7 +7,7 @@ ghost use Rattle.ild_schema.specs.Parts.{IsPartOf, part_named};
 ghost use Rattle.ild_schema.specs.Table.{def_at};
 ghost use Rattle.ild_schema.specs.Value.{Value};
 ghost use Rattle.ild_schema.specs.declared.row.Row.{Row};
-ghost use Rattle.ild_struct.specs.Parts.{HasNumber, IsPart};
+ghost use Rattle.ild_struct.specs.Parts.{HasNumber, IsFieldPart};
 ghost use Rattle.ild_typed.specs.At.{seen};
 ghost use Rattle.ild_view.specs.Body.{body_types, is_placed};
 ghost use Rattle.ild_view.specs.Itself.{Embodies};
@@ -21,7 +21,7 @@ use ild_struct::{Part, layer};
 
 // What stands for a field, where it is present.
 fn body_of<'b>(field: &'b Field, part: Part<'b>) -> Option<Body<'b>>
-    ensures embodies { (rows : List Row) (o : Option Data) → IsPart rows field.now o part.entry → Embodies rows o result }
+    ensures embodies { (rows : List Row) (o : Option Data) → IsFieldPart rows field.now o part.entry → Embodies rows o result }
     ensures free { HasNumber [] part.entry → IfSome result (λ b. body_types b ≡ 0) }
     ensures placed { HasNumber [] part.entry → (rows : List Row) → ImplicitFits rows field.now → IfSome result (λ b. is_placed rows field.now.slot b ≡ true) }
 {

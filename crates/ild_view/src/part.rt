@@ -1,7 +1,7 @@
 //! Views of the parts of a view.
 ghost use Rattle.std.specs.Prelude.{◌≡◌, ◌<◌, ◌≤◌, length, true};
 ghost use Rattle.ild_view.specs.Body.{body_types, is_placed};
-ghost use Rattle.ild_view.specs.Front.{HasFront};
+ghost use Rattle.ild_view.specs.Front.{BodyHasFront};
 ghost use Rattle.ild_view.specs.Safe.{is_safe};
 
 use crate::body::Body;
@@ -17,7 +17,7 @@ impl<'b> View<'b> {
         requires safe { is_safe (table_of self.now) slot ≡ true }
         requires numbered { body_types body ≤ length (table_of self.now) }
         requires placed { is_placed (table_of self.now) slot body ≡ true }
-        requires front { ∥ HasFront (table_of self.now) slot body ∥₁ }
+        requires front { ∥ BodyHasFront (table_of self.now) slot body ∥₁ }
         ensures table { table_of result ≡ table_of self.now }
         ensures slot { slot_of result ≡ slot }
         ensures body { body_of result ≡ body.entry }

@@ -1,7 +1,7 @@
 //! Typed views.
 ghost use Rattle.std.specs.Prelude.{◌≡◌, ◌<◌, ◌≤◌, length, true};
 ghost use Rattle.ild_view.specs.Body.{body_types, is_placed};
-ghost use Rattle.ild_view.specs.Front.{HasFront};
+ghost use Rattle.ild_view.specs.Front.{BodyHasFront};
 ghost use Rattle.ild_view.specs.Safe.{is_safe};
 
 use crate::body::Body;
@@ -18,5 +18,5 @@ pub struct View<'b> {
     ghost safe: { is_safe acc.now slot ≡ true },
     ghost numbered: { body_types body ≤ length acc.now },
     ghost placed: { is_placed acc.now slot body ≡ true },
-    ghost stands: { ∥ HasFront acc.now slot body ∥₁ },
+    ghost stands: { ∥ BodyHasFront acc.now slot body ∥₁ },
 }

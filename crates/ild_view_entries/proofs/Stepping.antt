@@ -3,7 +3,7 @@ use Rattle.std.proofs.Common.{ℕ, List, [], ◌∷◌, map, Option, Some, None}
 use Rattle.std.specs.Borrow.{Bor}
 use Rattle.ild_data.specs.Data as T
 use Rattle.ild_data.specs.Data.{Data}
-use Rattle.ild_cbor.specs.Nodes.{Finds, Stands}
+use Rattle.ild_cbor.specs.Nodes.{Finds, HasData}
 use Rattle.ild_cbor.specs.Steps.{HasItems, ItemsGive}
 use Rattle.ild_cbor.specs.declared.items.Items.{Items as ItemsLeft}
 use Rattle.ild_cbor.specs.declared.node.Node.{Node}
@@ -30,7 +30,7 @@ pub map_none : (s after : MapEntries) → EntriesGive s None after → (es : Lis
 map_none s after gives [] left = tt
 map_none s after gives (e ∷ es) left = absurd (gives (e ∷ es) left)
 
-pub pair_first : (s after : ItemsLeft) (item : Node) (k : Bor (List ℕ)) (n : Node) → ItemsGive s (Some item) after → ((e : List ℕ × Data) → Stands item (pair_data e) → IsPairOf e (Some (k, n)))
+pub pair_first : (s after : ItemsLeft) (item : Node) (k : Bor (List ℕ)) (n : Node) → ItemsGive s (Some item) after → ((e : List ℕ × Data) → HasData item (pair_data e) → IsPairOf e (Some (k, n)))
     → (es : List (List ℕ × Data)) → HasItems s (T.items_of (map pair_data es)) → FirstStep es (Some (k, Q.Node n, R.ListPairs after))
 pair_first s after item k n gives read [] left = absurd (gives T.no_items left)
 pair_first s after item k n gives read (e ∷ es) left =
@@ -38,7 +38,7 @@ pair_first s after item k n gives read (e ∷ es) left =
     let p = read e x.stands in
     record { key = p.0; stands = λ rows. p.1; left = x.left }
 
-pub pair_odd : (s after : ItemsLeft) (item : Node) → ItemsGive s (Some item) after → ((e : List ℕ × Data) → Stands item (pair_data e) → IsPairOf e None)
+pub pair_odd : (s after : ItemsLeft) (item : Node) → ItemsGive s (Some item) after → ((e : List ℕ × Data) → HasData item (pair_data e) → IsPairOf e None)
     → (es : List (List ℕ × Data)) → HasItems s (T.items_of (map pair_data es)) → FirstStep es None
 pair_odd s after item gives read [] left = tt
 pair_odd s after item gives read (e ∷ es) left = absurd (read e (gives (T.items_of (map pair_data (e ∷ es))) left).stands)

@@ -2,7 +2,7 @@
 use Rattle.std.specs.Borrow.{Bor}
 use Rattle.std.specs.Prelude.{◌≡◌, ℕ, List, [], ◌∷◌, Option, Some, None, length, map}
 use Rattle.ild_data.specs.Data.{Data, items_of}
-use Rattle.ild_cbor.specs.Nodes.{Stands}
+use Rattle.ild_cbor.specs.Nodes.{HasData}
 use Rattle.ild_cbor.specs.Steps.{HasItems}
 use Rattle.ild_cbor.specs.declared.node.Node.{Node}
 use Rattle.ild_cbor.specs.declared.piece.Piece.{Piece}
@@ -31,7 +31,7 @@ most_left (R.StringPairs split) = length (pairs_in split)
 -- an item is a pair of a key and a value
 abbrev pub IsPairOf : List ℕ × Data → Option (Bor (List ℕ) × Node) → Type 0
 IsPairOf e None = ⊥
-IsPairOf e (Some r) = (r.0.now ≡ e.0) × Stands r.1 e.1
+IsPairOf e (Some r) = (r.0.now ≡ e.0) × HasData r.1 e.1
 
 -- the first entry, and those behind it
 pub record TakesEntry (e : List ℕ × Data) (es : List (List ℕ × Data)) (r : Bor (List ℕ) × Piece × EntriesLeft) : Type 0 where

@@ -1,7 +1,7 @@
 //! The value at a key of a map, by its form.
 ghost use Rattle.std.specs.Prelude.{◌≡◌, ◌<◌, ◌∷◌, [], ℕ, IfSome, List, Option, Some, false, length, map, option_map};
 ghost use Rattle.std.specs.Option.{option_and_then};
-ghost use Rattle.ild_cbor.specs.Nodes.{Stands};
+ghost use Rattle.ild_cbor.specs.Nodes.{HasData};
 ghost use Rattle.ild_cbor.specs.Steps.{HasItems};
 ghost use Rattle.ild_data.specs.Data.{Data, items_of};
 ghost use Rattle.ild_data.specs.Key.{value_at};
@@ -32,7 +32,7 @@ fn piece_of<'b>(node: Option<Node<'b>>) -> Option<Piece<'b>>
 
 // The value of a pair, where its key is this one.
 fn value_in<'b>(item: &Node<'b>, key: &str) -> Option<Node<'b>>
-    ensures { (e : List ℕ × Data) → Stands item.now (pair_data e) → Found (value_at key.now (e ∷ [])) result }
+    ensures { (e : List ℕ × Data) → HasData item.now (pair_data e) → Found (value_at key.now (e ∷ [])) result }
 {
     match item.item(0) {
         Some(first) => match first.text() {

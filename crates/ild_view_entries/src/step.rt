@@ -1,6 +1,6 @@
 //! Steps over the entries of a map, form by form.
 ghost use Rattle.std.specs.Prelude.{◌≡◌, ◌<◌, IfSome, List, false, ℕ};
-ghost use Rattle.ild_cbor.specs.Nodes.{Stands};
+ghost use Rattle.ild_cbor.specs.Nodes.{HasData};
 ghost use Rattle.ild_data.specs.Data.{Data};
 ghost use Rattle.ild_view_entries.specs.Left.{AreLeft, FirstStep, IsPairOf, most_left};
 ghost use Rattle.ild_view_entries.specs.declared.left.EntriesLeft.TheVariants as R;
@@ -17,7 +17,7 @@ type Taken<'b> = (&'b str, Piece<'b>, EntriesLeft<'b>);
 
 // The key and the value of a pair.
 fn pair_of<'b>(item: &Node<'b>) -> Option<(&'b str, Node<'b>)>
-    ensures { (e : List ℕ × Data) → Stands item.now (pair_data e) → IsPairOf e result }
+    ensures { (e : List ℕ × Data) → HasData item.now (pair_data e) → IsPairOf e result }
 {
     match item.item(0) {
         Some(first) => match first.text() {

@@ -4,7 +4,7 @@ use Rattle.std.specs.Borrow.{Bor}
 use Rattle.std.specs.Ordering.{ordering_reverse}
 use Rattle.std.specs.Prelude.{IfOk, Result, Ok, Err, max}
 use Rattle.std.proofs.lemmas.Option.{same_Some, none-some}
-use Rattle.ild_cbor.specs.Nodes.{Stands}
+use Rattle.ild_cbor.specs.Nodes.{HasData}
 use Rattle.ild_cbor.specs.Scalar.{boolean_of, bytes_of, int_of, link_of, text_of}
 use Rattle.ild_cbor.specs.Steps.{EntriesGive, FindsEntries, FindsItems, HasEntries, HasItems, ItemsGive, items_of, members_of}
 use Rattle.ild_cbor.specs.declared.items.Items.{Items as ItemsLeft}
@@ -91,7 +91,7 @@ max_second : (a b r : ℕ) → max a b ≤ r → b ≤ r
 max_second a b r h = grind (arith)
 
 module _ (t : Data) (room : ℕ) (old : Items) (s after : ItemsLeft) (h : ItemsRead t room old s) where
-  pub items_on : (n : Node) (new : Items) (d : Data) → ItemsGive s (Some n) after → ((e : Data) → Stands n e → depth e ≤ room → d ≡ e) → items_list new ≡ items_list old ++ d ∷ [] → ItemsRead t room new after
+  pub items_on : (n : Node) (new : Items) (d : Data) → ItemsGive s (Some n) after → ((e : Data) → HasData n e → depth e ≤ room → d ≡ e) → items_list new ≡ items_list old ++ d ∷ [] → ItemsRead t room new after
   items_on n new d gives read more = by h.rest h.has h.deep h.whole where
     by : (ds : Items) → HasItems s ds → items_depth ds ≤ room → items_list h.all ≡ items_list old ++ items_list ds → ItemsRead t room new after
     by T.no_items has deep whole = absurd (gives T.no_items has)
@@ -153,7 +153,7 @@ members_begin n (T.map ms) room s h deep =
 members_begin n t room s h deep = absurd h
 
 module _ (t : Data) (room : ℕ) (old : Members) (s after : Pairs) (h : MembersRead t room old s) where
-  pub members_on : (x : Bor (List ℕ) × Node) (new : Members) (k : List ℕ) (d : Data) → EntriesGive s (Some x) after → k ≡ x.0.now → ((e : Data) → Stands x.1 e → depth e ≤ room → d ≡ e)
+  pub members_on : (x : Bor (List ℕ) × Node) (new : Members) (k : List ℕ) (d : Data) → EntriesGive s (Some x) after → k ≡ x.0.now → ((e : Data) → HasData x.1 e → depth e ≤ room → d ≡ e)
       → members_list new ≡ put k d (members_list old) → MembersRead t room new after
   members_on x new k d gives name read more = by h.rest h.has h.deep h.whole where
     by : (ms : Members) → HasEntries s ms → members_depth ms ≤ room → members_list h.all ≡ members_list old ++ members_list ms → MembersRead t room new after
@@ -193,7 +193,7 @@ pub entries_begin : (es : List (List ℕ × Data)) (s : MapEntries) → HasLeft 
 entries_begin es s h = record { rest = es; has = h; whole = refl }
 
 module _ (es : List (List ℕ × Data)) (rises : Rises es) (old : Members) (s after : MapEntries) (h : EntriesRead es old s) where
-  pub entries_on : (x : Bor (List ℕ) × Node) (new : Members) (k : List ℕ) (d : Data) → PieceGives s (Some x) after → k ≡ x.0.now → ((e : Data) → Stands x.1 e → d ≡ e)
+  pub entries_on : (x : Bor (List ℕ) × Node) (new : Members) (k : List ℕ) (d : Data) → PieceGives s (Some x) after → k ≡ x.0.now → ((e : Data) → HasData x.1 e → d ≡ e)
       → members_list new ≡ put k d (members_list old) → EntriesRead es new after
   entries_on x new k d gives name read more = by h.rest h.has h.whole where
     by : (rest : List (List ℕ × Data)) → HasLeft s rest → es ≡ members_list old ++ rest → EntriesRead es new after

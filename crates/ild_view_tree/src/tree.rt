@@ -1,6 +1,6 @@
 //! The trees for which items stand.
 ghost use Rattle.std.specs.Prelude.{◌≡◌, ◌≤◌, IfOk, None};
-ghost use Rattle.ild_cbor.specs.Nodes.{Stands};
+ghost use Rattle.ild_cbor.specs.Nodes.{HasData};
 ghost use Rattle.ild_cbor.specs.Steps.{items_of, members_of};
 ghost use Rattle.ild_data.specs.Data.{Data, depth};
 ghost use Rattle.ild_data.specs.Seen.{data_of};
@@ -14,7 +14,7 @@ const DEEPEST: u32 = 96;
 
 // The tree of an item that is neither a list nor a map.
 fn scalar_tree(alloc: Global, node: &Node<'_>) -> Result<Tree, AllocError>
-    ensures { IfOk result (λ tree. (t : Data) → Stands node.now t → items_of t ≡ None → members_of t ≡ None → data_of tree ≡ t) }
+    ensures { IfOk result (λ tree. (t : Data) → HasData node.now t → items_of t ≡ None → members_of t ≡ None → data_of tree ≡ t) }
 {
     if let Some(n) = node.int() {
         return Ok(Tree::Int(n));
@@ -36,7 +36,7 @@ fn scalar_tree(alloc: Global, node: &Node<'_>) -> Result<Tree, AllocError>
 
 // The tree of an item that nests at most so deep.
 fn tree_within(alloc: Global, node: &Node<'_>, room: u32) -> Result<Tree, AllocError>
-    ensures { IfOk result (λ tree. (t : Data) → Stands node.now t → depth t ≤ room → data_of tree ≡ t) }
+    ensures { IfOk result (λ tree. (t : Data) → HasData node.now t → depth t ≤ room → data_of tree ≡ t) }
 {
     if let Some(items) = node.items() {
         if room == 0 {
@@ -68,7 +68,7 @@ fn tree_within(alloc: Global, node: &Node<'_>, room: u32) -> Result<Tree, AllocE
 
 /// The tree for which an item stands.
 pub(crate) fn tree_of(alloc: Global, node: &Node<'_>) -> Result<Tree, AllocError>
-    ensures { IfOk result (λ tree. (t : Data) → Stands node.now t → data_of tree ≡ t) }
+    ensures { IfOk result (λ tree. (t : Data) → HasData node.now t → data_of tree ≡ t) }
 {
     tree_within(alloc, node, DEEPEST)
 }

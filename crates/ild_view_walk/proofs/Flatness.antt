@@ -25,12 +25,12 @@ use Rattle.ild_schema.specs.declared.row.Row.{Row}
 use Rattle.ild_schema.specs.Clear.{AreSafe, IsSafe}
 use Rattle.ild_schema.specs.DataKinds.{same_kind}
 use Rattle.ild_schema.specs.Hex.{bytes_of_hex}
-use Rattle.ild_schema.specs.Marks.{text_of as mark_text, kind_of as mark_kind}
+use Rattle.ild_schema.specs.Marks.{mark_text, mark_kind}
 use Rattle.ild_schema.specs.Slots.{plainly}
 use Rattle.ild_typed.specs.Composed.{composed, map_form, struct_form, inlined, marked_form, member_form, union_form}
 use Rattle.ild_typed.specs.Fields.{is_implicit, field_entries, tuple_items, all_items}
 use Rattle.ild_typed.specs.Hamt.{alone}
-use Rattle.ild_typed.specs.Kinds.{kind_of}
+use Rattle.ild_typed.specs.Kinds.{kind_word_of}
 use Rattle.ild_typed.specs.Levels.{struct_levels}
 use Rattle.ild_typed.specs.Layer as L
 use Rattle.ild_typed.specs.Layer.{Layer, as_list, as_map, as_struct, as_union}
@@ -164,8 +164,8 @@ marked form d t m e flat = let y = then_from (marked_form form d) (mark_text m.m
 
 member_flat : (form : UnionForm) (d t : Data) (m : Member) → member_form form d m ≡ Some t → IsFlat t → IsFlat d
 member_flat UF.Kinded d t m e flat =
-    let y = then_from (λ k. cond (same_kind k (kind_of d)) (Some d) None) (mark_kind m.mark) t e in
-    ap depth (true_from (same_kind y.item (kind_of d)) d t y.made).1 ∙ flat
+    let y = then_from (λ k. cond (same_kind k (kind_word_of d)) (Some d) None) (mark_kind m.mark) t e in
+    ap depth (true_from (same_kind y.item (kind_word_of d)) d t y.made).1 ∙ flat
 member_flat UF.Keyed d t m e flat = marked UF.Keyed d t m e flat
 member_flat UF.StringPrefix d t m e flat = marked UF.StringPrefix d t m e flat
 member_flat UF.BytesPrefix d t m e flat = marked UF.BytesPrefix d t m e flat

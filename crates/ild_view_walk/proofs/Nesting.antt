@@ -8,7 +8,7 @@ use Rattle.ild_data.specs.Data.{Data, depth, items_depth, members_depth}
 use Rattle.ild_cbor.specs.declared.items.Items.{Items}
 use Rattle.ild_cbor.specs.declared.node.Node.{Node}
 use Rattle.ild_cbor.specs.declared.pairs.Pairs.{Pairs}
-use Rattle.ild_cbor.specs.Nodes.{Stands}
+use Rattle.ild_cbor.specs.Nodes.{HasData}
 use Rattle.ild_cbor.specs.Scalar.{kind_of}
 use Rattle.ild_cbor.specs.declared.kind.Kind.TheVariants as K
 use Rattle.ild_cbor.specs.Steps.{EntriesGive, FindsEntries, FindsItems, HasEntries, HasItems, ItemsGive, items_of, members_of}
@@ -49,7 +49,7 @@ no_room_list n (T.list ds) s h = sym (never_within (items_depth ds))
 no_room_list n t s h = absurd h
 
 module _ (t : Data) (room : ℕ) (s after : Items) (h : ItemsNest t room s) where
-  pub items_on : (n : Node) → ItemsGive s (Some n) after → ((d : Data) → Stands n d → true ≡ nat_le (depth d) room) → ItemsNest t room after
+  pub items_on : (n : Node) → ItemsGive s (Some n) after → ((d : Data) → HasData n d → true ≡ nat_le (depth d) room) → ItemsNest t room after
   items_on n gives within = by h.rest h.has h.same where
     by : (ds : T.Items) → HasItems s ds → nat_le (items_depth h.all) room ≡ nat_le (items_depth ds) room → ItemsNest t room after
     by T.no_items has same = absurd (gives T.no_items has)
@@ -57,7 +57,7 @@ module _ (t : Data) (room : ℕ) (s after : Items) (h : ItemsNest t room s) wher
         let x = gives (T.item d ds) has in
         record { all = h.all; is = h.is; rest = ds; has = x.left; same = same ∙ max_within (depth d) (items_depth ds) room (sym (within d x.stands)) }
 
-  pub items_beyond : (n : Node) (full : ℕ) → room ≡ full - 1 → (full ≡ 0 → ⊥) → ItemsGive s (Some n) after → ((d : Data) → Stands n d → false ≡ nat_le (depth d) room) → false ≡ nat_le (depth t) full
+  pub items_beyond : (n : Node) (full : ℕ) → room ≡ full - 1 → (full ≡ 0 → ⊥) → ItemsGive s (Some n) after → ((d : Data) → HasData n d → false ≡ nat_le (depth d) room) → false ≡ nat_le (depth t) full
   items_beyond n full less some gives beyond = by h.rest h.has h.same where
     by : (ds : T.Items) → HasItems s ds → nat_le (items_depth h.all) room ≡ nat_le (items_depth ds) room → false ≡ nat_le (depth t) full
     by T.no_items has same = absurd (gives T.no_items has)
@@ -93,7 +93,7 @@ no_room_map n (T.map ms) s h = sym (never_within (members_depth ms))
 no_room_map n t s h = absurd h
 
 module _ (t : Data) (room : ℕ) (s after : Pairs) (h : MembersNest t room s) where
-  pub members_on : (x : Bor (List ℕ) × Node) → EntriesGive s (Some x) after → ((d : Data) → Stands x.1 d → true ≡ nat_le (depth d) room) → MembersNest t room after
+  pub members_on : (x : Bor (List ℕ) × Node) → EntriesGive s (Some x) after → ((d : Data) → HasData x.1 d → true ≡ nat_le (depth d) room) → MembersNest t room after
   members_on x gives within = by h.rest h.has h.same where
     by : (ms : T.Members) → HasEntries s ms → nat_le (members_depth h.all) room ≡ nat_le (members_depth ms) room → MembersNest t room after
     by T.no_members has same = absurd (gives T.no_members has)
@@ -101,7 +101,7 @@ module _ (t : Data) (room : ℕ) (s after : Pairs) (h : MembersNest t room s) wh
         let y = gives (T.member k d ms) has in
         record { all = h.all; is = h.is; rest = ms; has = y.left; same = same ∙ max_within (depth d) (members_depth ms) room (sym (within d y.stands)) }
 
-  pub members_beyond : (x : Bor (List ℕ) × Node) (full : ℕ) → room ≡ full - 1 → (full ≡ 0 → ⊥) → EntriesGive s (Some x) after → ((d : Data) → Stands x.1 d → false ≡ nat_le (depth d) room)
+  pub members_beyond : (x : Bor (List ℕ) × Node) (full : ℕ) → room ≡ full - 1 → (full ≡ 0 → ⊥) → EntriesGive s (Some x) after → ((d : Data) → HasData x.1 d → false ≡ nat_le (depth d) room)
       → false ≡ nat_le (depth t) full
   members_beyond x full less some gives beyond = by h.rest h.has h.same where
     by : (ms : T.Members) → HasEntries s ms → nat_le (members_depth h.all) room ≡ nat_le (members_depth ms) room → false ≡ nat_le (depth t) full

@@ -14,7 +14,7 @@ use Rattle.ild_schema.specs.declared.def.TypeDef.{TypeDef}
 use Rattle.ild_schema.specs.declared.row.Row.{Row}
 use Rattle.ild_typed.specs.Causes.{why_of}
 use Rattle.ild_typed.specs.Fits.{Fits, Front}
-use Rattle.ild_typed.specs.Layers.{Shows}
+use Rattle.ild_typed.specs.Layers.{RepresentsSome}
 use Rattle.ild_typed.specs.Pieces.{IsWhy, hamt_why, is_null_there, keys_why, needs, room_why, why_at}
 use Rattle.ild_typed.specs.Refused.{AreParts, Refusal, Refused}
 use Rattle.ild_typed.specs.Schema.{IsSchema}
@@ -44,7 +44,7 @@ is_why m n d t w same (inr h) = inr (same ∙ h.0, h.1, h.2)
 -- ---- one room for all
 
 abbrev At : List Row → ℕ → Spot → Type 0
-At rows room p = Shows (Fits rows room) rows p.slot p.tree
+At rows room p = RepresentsSome (Fits rows room) rows p.slot p.tree
 
 at_more : (rows : List Row) (m n : ℕ) → m ≤ n → (p : Spot) → At rows m p → At rows n p
 at_more rows m n le p h = shows_more rows (Fits rows m) (Fits rows n) (λ s v k. fits_more rows m n le s v k) p.slot p.tree h

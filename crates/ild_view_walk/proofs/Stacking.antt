@@ -28,11 +28,11 @@ use Rattle.ild_view_walk.specs.declared.opening.Opening.{Opening}
 use Rattle.ild_view_walk.specs.declared.opening.Stop.TheVariants as S
 use Rattle.ild_layer_parts.specs.declared.part.Part.{Part}
 use Rattle.ild_layer_parts.specs.declared.parts.Parts.{Parts}
-use Rattle.ild_view_walk.specs.inside.Opens.{HasOpened, Opens}
+use Rattle.ild_view_walk.specs.inside.Opens.{HasOpened, OpensPiece}
 use Rattle.ild_layer_parts.specs.Part.{FitsAnywhere, IsSpotted}
 use Rattle.ild_layer_parts.specs.Parts.{HasLeft, SplitsOff}
 use Rattle.ild_layer_parts.specs.Ready.{AreReady, AreReadyBoth, IsIn, IsInlined, IsReady}
-use Rattle.ild_view_walk.specs.inside.Stacked.{Adds, AreHeld, AreSifted, IsHeld, IsPlain, IsShown, Replaces}
+use Rattle.ild_view_walk.specs.inside.Stacked.{Adds, PartsAreAt, AreSifted, PartIsAt, IsPlain, IsShown, Replaces}
 use Rattle.ild_view_walk.proofs.Flatness.{IsFine, few_levels, parts_fine}
 use Rattle.ild_view_walk.proofs.Spreading.{never_shown, shown_back, shown_onward}
 use Rattle.ild_layer_parts.proofs.Lists.{all_join}
@@ -54,13 +54,13 @@ sifted_plain rows [] qs sifted all = subst (AllByRecursion (IsPlain rows)) (sym 
 sifted_plain rows (p ∷ ps) qs (inl (fits, more)) all = sifted_plain rows ps qs more all.1
 sifted_plain rows (p ∷ ps) qs (inr (rest, same, more)) all = subst (AllByRecursion (IsPlain rows)) (sym same) (all.0, sifted_plain rows ps rest more all.1)
 
-held_join : (rows : List Row) (xs : List Part) (ps : List Spot) (ys : List Part) (qs : List Spot) → AreHeld rows xs ps → AreHeld rows ys qs → AreHeld rows (xs ++ ys) (ps ++ qs)
+held_join : (rows : List Row) (xs : List Part) (ps : List Spot) (ys : List Part) (qs : List Spot) → PartsAreAt rows xs ps → PartsAreAt rows ys qs → PartsAreAt rows (xs ++ ys) (ps ++ qs)
 held_join rows [] [] ys qs a b = b
 held_join rows [] (p ∷ ps) ys qs a b = absurd a
 held_join rows (x ∷ xs) [] ys qs a b = absurd a
 held_join rows (x ∷ xs) (p ∷ ps) ys qs a b = (a.0, held_join rows xs ps ys qs a.1 b)
 
-held_low : (rows : List Row) (xs : List Part) (ps : List Spot) → AreHeld rows xs ps → AllByRecursion (λ p. IsIn rows p.slot) ps
+held_low : (rows : List Row) (xs : List Part) (ps : List Spot) → PartsAreAt rows xs ps → AllByRecursion (λ p. IsIn rows p.slot) ps
 held_low rows [] [] h = tt
 held_low rows [] (p ∷ ps) h = absurd h
 held_low rows (x ∷ xs) [] h = absurd h
@@ -148,10 +148,10 @@ module _ (rows : List Row) (schema : IsSchema rows) (legible : IsLegible rows) (
     few : (d : TypeDef) → needs d p.tree ≤ room
     few d = let h = few_levels d p.tree plain.flat in omega (arith, h, wide)
 
-    pub refused_never : (w : Why) → ((d : TypeDef) → meant rows x.slot.ty.0 ≡ Some d → Opens rows room d p.tree (Err (S.Why w))) → IsShown rows p → ⊥
+    pub refused_never : (w : Why) → ((d : TypeDef) → meant rows x.slot.ty.0 ≡ Some d → OpensPiece rows room d p.tree (Err (S.Why w))) → IsShown rows p → ⊥
     refused_never w opens =
         let f = form_of_slot rows schema p.slot own_low in
-        never_shown rows schema legible p plain.tree plain.safe (own_null false there) f.0 f.1 room (few f.0) (told w) (own_form (λ d. Opens rows room d p.tree (Err (S.Why w))) opens f.0 f.1)
+        never_shown rows schema legible p plain.tree plain.safe (own_null false there) f.0 f.1 room (few f.0) (told w) (own_form (λ d. OpensPiece rows room d p.tree (Err (S.Why w))) opens f.0 f.1)
 
     both_plain : (ps : List Spot) → AllByRecursion (λ q. IsTree q.tree) ps → AllByRecursion (IsFine rows) ps → AllByRecursion (IsPlain rows) ps
     both_plain [] trees fine = tt
@@ -179,22 +179,22 @@ module _ (rows : List Row) (schema : IsSchema rows) (legible : IsLegible rows) (
 
 pub record Going (rows : List Row) (ps : List Spot) (left : List Part) : Type 0 where
   pub spots : List Spot
-  pub held : AreHeld rows left spots
+  pub held : PartsAreAt rows left spots
   pub plain : AllByRecursion (IsPlain rows) spots
   pub onward : AllByRecursion (IsShown rows) ps → AllByRecursion (IsShown rows) spots
   pub back : AllByRecursion (IsShown rows) spots → AllByRecursion (IsShown rows) ps
 
-pub going_begins : (rows : List Row) (ps : List Spot) (left : List Part) → AreHeld rows left ps → AllByRecursion (IsPlain rows) ps → Going rows ps left
+pub going_begins : (rows : List Row) (ps : List Spot) (left : List Part) → PartsAreAt rows left ps → AllByRecursion (IsPlain rows) ps → Going rows ps left
 going_begins rows ps left held plain = record { spots = ps; held = held; plain = plain; onward = λ h. h; back = λ h. h }
 
 record Last (rows : List Row) (xs : List Part) (x : Part) (ps : List Spot) : Type 0 where
   pub before : List Spot
   pub last : Spot
   pub is : ps ≡ before ++ last ∷ []
-  pub held : AreHeld rows xs before
-  pub own : IsHeld rows x last
+  pub held : PartsAreAt rows xs before
+  pub own : PartIsAt rows x last
 
-held_last : (rows : List Row) (xs : List Part) (x : Part) (ps : List Spot) → AreHeld rows (xs ++ x ∷ []) ps → Last rows xs x ps
+held_last : (rows : List Row) (xs : List Part) (x : Part) (ps : List Spot) → PartsAreAt rows (xs ++ x ∷ []) ps → Last rows xs x ps
 held_last rows [] x [] h = absurd h
 held_last rows [] x (p ∷ []) h = record { before = []; last = p; is = refl; held = tt; own = h.0 }
 held_last rows [] x (p ∷ q ∷ ps) h = absurd h.1
@@ -209,7 +209,7 @@ all_split P (x ∷ xs) ys all = let r = all_split P xs ys all.1 in ((all.0, r.0)
 
 module _ (rows : List Row) (ps : List Spot) (left front : List Part) (x : Part) (popped : left ≡ front ++ x ∷ []) (w : Going rows ps left) where
   last_of : Last rows front x w.spots
-  last_of = held_last rows front x w.spots (subst (λ xs. AreHeld rows xs w.spots) popped w.held)
+  last_of = held_last rows front x w.spots (subst (λ xs. PartsAreAt rows xs w.spots) popped w.held)
 
   plain_of : AllByRecursion (IsPlain rows) last_of.before × AllByRecursion (IsPlain rows) (last_of.last ∷ [])
   plain_of = all_split (IsPlain rows) last_of.before (last_of.last ∷ []) (subst (AllByRecursion (IsPlain rows)) last_of.is w.plain)
@@ -223,7 +223,7 @@ module _ (rows : List Row) (ps : List Spot) (left front : List Part) (x : Part) 
       let r = replaces l.last l.own.spotted plain_of.1.0 in
       record {
         spots = l.before ++ r.spots;
-        held = subst (λ xs. AreHeld rows xs (l.before ++ r.spots)) (sym r.is) (held_join rows front l.before r.added r.spots l.held r.held);
+        held = subst (λ xs. PartsAreAt rows xs (l.before ++ r.spots)) (sym r.is) (held_join rows front l.before r.added r.spots l.held r.held);
         plain = all_join (IsPlain rows) l.before r.spots plain_of.0 r.plain;
         onward = λ h. let both = shown_of h in all_join (IsShown rows) l.before r.spots both.0 (r.onward both.1.0);
         back = λ h. let both = all_split (IsShown rows) l.before r.spots h in
@@ -234,8 +234,8 @@ module _ (rows : List Row) (ps : List Spot) (left front : List Part) (x : Part) 
   going_refused never h = never last_of.last last_of.own.spotted plain_of.1.0 (shown_of h).1.0
 
 pub going_done : (rows : List Row) (ps : List Spot) (left : List Part) → left ≡ [] → Going rows ps left → AllByRecursion (IsShown rows) ps
-going_done rows ps left none w = w.back (by w.spots (subst (λ xs. AreHeld rows xs w.spots) none w.held)) where
-  by : (qs : List Spot) → AreHeld rows [] qs → AllByRecursion (IsShown rows) qs
+going_done rows ps left none w = w.back (by w.spots (subst (λ xs. PartsAreAt rows xs w.spots) none w.held)) where
+  by : (qs : List Spot) → PartsAreAt rows [] qs → AllByRecursion (IsShown rows) qs
   by [] h = tt
   by (q ∷ qs) h = absurd h
 
@@ -249,7 +249,7 @@ ready_last rows left front x is all = let r = all_split (IsReady rows) front (x 
 
 -- ---- one text
 
-pub text_held : (rows : List Row) (ty : TypeNo) (s : Bor (List ℕ)) (x : Part) → x.slot ≡ plainly ty → x.is_key ≡ false → x.piece ≡ P.Text s → IsIn rows (plainly ty) → IsHeld rows x (value_spot (plainly ty) (T.text s.now) [])
+pub text_held : (rows : List Row) (ty : TypeNo) (s : Bor (List ℕ)) (x : Part) → x.slot ≡ plainly ty → x.is_key ≡ false → x.piece ≡ P.Text s → IsIn rows (plainly ty) → PartIsAt rows x (value_spot (plainly ty) (T.text s.now) [])
 text_held rows ty s x slot key piece low = record {
   spotted = record { slot = slot; key = key; stands = subst (λ q. StandsFor rows q (T.text s.now)) (sym piece) refl };
   ready = record { within = subst (IsIn rows) (sym slot) low; numbered = subst (IsNumbered rows) (sym piece) tt; inlined = subst (IsInlined rows x.slot) (sym piece) (λ e. never e) };
@@ -258,8 +258,8 @@ text_held rows ty s x slot key piece low = record {
     never : {A : Type 0} → false ≡ true → A
     never e = absurd cc
 
-pub one_held : (rows : List Row) (x : Part) (p : Spot) (items : List Part) → items ≡ x ∷ [] → IsHeld rows x p → IsPlain rows p → (r : Result Bool AllocError)
-    → IfOk r (λ b. (ps : List Spot) → AreHeld rows items ps → AllByRecursion (IsPlain rows) ps → (b ≡ true) ↔ AllByRecursion (IsShown rows) ps) → IfOk r (λ b. (b ≡ true) ↔ IsShown rows p)
+pub one_held : (rows : List Row) (x : Part) (p : Spot) (items : List Part) → items ≡ x ∷ [] → PartIsAt rows x p → IsPlain rows p → (r : Result Bool AllocError)
+    → IfOk r (λ b. (ps : List Spot) → PartsAreAt rows items ps → AllByRecursion (IsPlain rows) ps → (b ≡ true) ↔ AllByRecursion (IsShown rows) ps) → IfOk r (λ b. (b ≡ true) ↔ IsShown rows p)
 one_held rows x p items is held plain (Ok b) h =
-    let both = h (p ∷ []) (subst (λ xs. AreHeld rows xs (p ∷ [])) (sym is) (held, tt)) (plain, tt) in ((λ e. (both.0 e).0), (λ shown. both.1 (shown, tt)))
+    let both = h (p ∷ []) (subst (λ xs. PartsAreAt rows xs (p ∷ [])) (sym is) (held, tt)) (plain, tt) in ((λ e. (both.0 e).0), (λ shown. both.1 (shown, tt)))
 one_held rows x p items is held plain (Err e) h = tt

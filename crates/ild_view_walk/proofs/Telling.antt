@@ -4,7 +4,7 @@ use Rattle.ild_data.specs.Data.{Data}
 use Rattle.ild_data.specs.Spell.{spell}
 use Rattle.ild_data.specs.Limits.{longest_block}
 use Rattle.ild_data.specs.Tree.{IsTree}
-use Rattle.ild_cbor.specs.Nodes.{Stands, start_of}
+use Rattle.ild_cbor.specs.Nodes.{HasData, start_of}
 use Rattle.ild_cbor.specs.declared.node.Node.{Node}
 use Rattle.ild_cbor.specs.declared.piece.Piece.{Piece}
 use Rattle.ild_cbor.specs.declared.piece.Piece.TheVariants as P
@@ -63,7 +63,7 @@ stopped_place rows schema room s t y why h = λ r refused.
 
 -- ---- that of a whole item, in its block
 
-pub told_in_block : (rows : List Row) (room : ℕ) (s : Slot) (n : Node) (t : Data) (ty : TypeNo) (why : Why) (j at : ℕ) → Stands n t → n.to < 2 ^ 64
+pub told_in_block : (rows : List Row) (room : ℕ) (s : Slot) (n : Node) (t : Data) (ty : TypeNo) (why : Why) (j at : ℕ) → HasData n t → n.to < 2 ^ 64
     → TellsPlaceIn rows room s (P.Node n) t (E.Shape ty why j) → (from : ℕ) → from ≡ start_of n → at ≡ min (from + j) (2 ^ 64 - 1) → TellsPlace rows room s n t (E.Shape ty why at)
 told_in_block rows room s n t ty why j at stands bound tells from first sum = λ r refused.
     let here : BeginsAt r.at t j = tells r refused t stands in

@@ -17,7 +17,7 @@ use Rattle.ild_schema.specs.declared.number.TypeNo.{TypeNo}
 use Rattle.ild_schema.specs.declared.row.Row.{Row}
 use Rattle.ild_schema.specs.Value.{Value}
 use Rattle.ild_typed.specs.Fits.{Fits, FitsPast}
-use Rattle.ild_typed.specs.Layers.{Shows}
+use Rattle.ild_typed.specs.Layers.{RepresentsSome}
 use Rattle.ild_typed.specs.Pieces.{IsWhy, is_null_there, needs, why_at}
 use Rattle.ild_typed.specs.Refused.{AreParts, FirstRefused, Refusal, Refused, RefusedPast, key_refusal, part_refusal}
 use Rattle.ild_typed.specs.Schema.{IsSchema}
@@ -34,7 +34,7 @@ use Rattle.ild_view_walk.specs.declared.opening.Stop.TheVariants as S
 use Rattle.ild_layer_parts.specs.declared.part.Part.{Part}
 use Rattle.ild_layer_parts.specs.declared.parts.Parts.{Parts}
 use Rattle.ild_view_walk.specs.Checks.{Checks, Faults, IsPartRefusal, IsRefusal, PartFaults, is_depth}
-use Rattle.ild_view_walk.specs.inside.Opens.{HasOpened, IsStopped, Opens}
+use Rattle.ild_view_walk.specs.inside.Opens.{HasOpened, IsStopped, OpensPiece}
 use Rattle.ild_layer_parts.specs.Part.{FitsAnywhere, IsSpotted}
 use Rattle.ild_layer_parts.specs.Parts.{HasLeft, SplitsOff}
 use Rattle.ild_layer_parts.proofs.Lists.{all_join}
@@ -62,20 +62,20 @@ past_refused rows (suc over) room (suc n) e s t r h = past_refused rows over roo
 
 -- the first part with a refusal, behind those that show
 first_behind : (rows : List Row) (fits : Slot → Value → Type 0) (refused : Slot → Data → Refusal → Type 0) (done : List Spot) (p : Spot) (others : List Spot) (q : Refusal)
-    → AllByRecursion (λ d. Shows fits rows d.slot d.tree) done → refused p.slot p.tree q → FirstRefused fits refused rows (done ++ p ∷ others) (part_refusal p q)
+    → AllByRecursion (λ d. RepresentsSome fits rows d.slot d.tree) done → refused p.slot p.tree q → FirstRefused fits refused rows (done ++ p ∷ others) (part_refusal p q)
 first_behind rows fits refused [] p others q all h = inl (q, h, refl)
 first_behind rows fits refused (d ∷ done) p others q all h = inr (all.0, first_behind rows fits refused done p others q all.1 h)
 
 pub part_refused : (rows : List Row) (room left : ℕ) (s : Slot) (t : Data) (d : TypeDef) → is_null_there s t ≡ false → form_of rows s ≡ Some d → why_at room d t ≡ None
     → (done : List Spot) (p : Spot) (others : List Spot) → AreParts d t (done ++ p ∷ others) → left + needs d t ≡ room → left < room
-    → AllByRecursion (λ x. Shows (Fits rows left) rows x.slot x.tree) done → (q : Refusal) → Refused rows left p.slot p.tree q → Refused rows room s t (part_refusal p q)
+    → AllByRecursion (λ x. RepresentsSome (Fits rows left) rows x.slot x.tree) done → (q : Refusal) → Refused rows left p.slot p.tree q → Refused rows room s t (part_refusal p q)
 unfolding RefusedPast
 part_refused rows zero left s t d there is none done p others parts sum less all q h = absurd (omega (arith, less))
 part_refused rows (suc room) left s t d there is none done p others parts sum less all q h =
     let fits = FitsPast rows room (needs d t - 1) in
     let same : room ≡ left + (needs d t - 1) = omega (arith, sum, less) in
-    let shown : AllByRecursion (λ (x : Spot). Shows fits rows x.slot x.tree) done =
-    all_more (λ (x : Spot). Shows (Fits rows left) rows x.slot x.tree) (λ (x : Spot). Shows fits rows x.slot x.tree)
+    let shown : AllByRecursion (λ (x : Spot). RepresentsSome fits rows x.slot x.tree) done =
+    all_more (λ (x : Spot). RepresentsSome (Fits rows left) rows x.slot x.tree) (λ (x : Spot). RepresentsSome fits rows x.slot x.tree)
     (λ x k. shows_more rows (Fits rows left) fits (λ u v m. past_fits rows (needs d t - 1) left room same u v m) x.slot x.tree k) done all in (
       there,
       d,
@@ -144,7 +144,7 @@ pub record Walking (rows : List Row) (room : ℕ) (s : Slot) (t : Data) (left : 
   pub rest : List Spot
   pub are : AreParts type t (done ++ rest)
   pub room_is : left + needs type t ≡ room
-  pub shown : AllByRecursion (λ p. Shows (Fits rows left) rows p.slot p.tree) done
+  pub shown : AllByRecursion (λ p. RepresentsSome (Fits rows left) rows p.slot p.tree) done
   pub has : HasLeft rows parts rest
 
 pub walk_begins : (rows : List Row) (room : ℕ) (s : Slot) (t : Data) (d : TypeDef) (x : Opening) → form_of rows s ≡ Some d → HasOpened rows room d t x → Walking rows room s t x.room x.parts
@@ -153,7 +153,7 @@ walk_begins rows room s t d x is h =
 
 module _ (rows : List Row) (room : ℕ) (s : Slot) (t : Data) (left : ℕ) (parts : Parts) (w : Walking rows room s t left parts) where
   -- the parts that are taken show
-  goes_on : (behind : Parts) (taken others : List Spot) → w.rest ≡ taken ++ others → HasLeft rows behind others → AllByRecursion (λ p. Shows (Fits rows left) rows p.slot p.tree) taken
+  goes_on : (behind : Parts) (taken others : List Spot) → w.rest ≡ taken ++ others → HasLeft rows behind others → AllByRecursion (λ p. RepresentsSome (Fits rows left) rows p.slot p.tree) taken
       → Walking rows room s t left behind
   goes_on behind taken others is has all = record {
     type = w.type;
@@ -163,7 +163,7 @@ module _ (rows : List Row) (room : ℕ) (s : Slot) (t : Data) (left : ℕ) (part
     rest = others;
     are = subst (AreParts w.type t) (ap (λ xs. w.done ++ xs) is ∙ sym (append_assoc w.done taken others)) w.are;
     room_is = w.room_is;
-    shown = all_join (λ p. Shows (Fits rows left) rows p.slot p.tree) w.done taken w.shown all;
+    shown = all_join (λ p. RepresentsSome (Fits rows left) rows p.slot p.tree) w.done taken w.shown all;
     has = has;
   }
 
@@ -182,7 +182,7 @@ module _ (rows : List Row) (room : ℕ) (s : Slot) (t : Data) (left : ℕ) (part
       front [] ys all = tt
       front (x ∷ xs) ys all = (all.0, front xs ys all.1)
 
-      shown : (xs : List Spot) → AllByRecursion (FitsAnywhere rows) xs → AllByRecursion (λ p. IsTree p.tree) xs → AllByRecursion (λ p. Shows (Fits rows left) rows p.slot p.tree) xs
+      shown : (xs : List Spot) → AllByRecursion (FitsAnywhere rows) xs → AllByRecursion (λ p. IsTree p.tree) xs → AllByRecursion (λ p. RepresentsSome (Fits rows left) rows p.slot p.tree) xs
       shown [] all trees = tt
       shown (x ∷ xs) all trees = (all.0 trees.0 left, shown xs all.1 trees.1)
 
@@ -202,9 +202,9 @@ module _ (rows : List Row) (room : ℕ) (s : Slot) (t : Data) (left : ℕ) (part
     pub past_part : ((u : Data) → StandsFor rows x.piece u → IsTree u → Checks rows left x.slot u (Ok tt)) → Walking rows room s t left behind
     past_part checked =
         let spotted = split.first.2 in
-        let shows : Shows (Fits rows left) rows split.first.0.slot split.first.0.tree =
-        subst (λ u. Shows (Fits rows left) rows u split.first.0.tree) spotted.slot (checked split.first.0.tree spotted.stands part_tree) in
-        goes_on behind split.taken split.others split.is split.left (subst (AllByRecursion (λ p. Shows (Fits rows left) rows p.slot p.tree)) (sym split.first.1) (shows, tt))
+        let shows : RepresentsSome (Fits rows left) rows split.first.0.slot split.first.0.tree =
+        subst (λ u. RepresentsSome (Fits rows left) rows u split.first.0.tree) spotted.slot (checked split.first.0.tree spotted.stands part_tree) in
+        goes_on behind split.taken split.others split.is split.left (subst (AllByRecursion (λ p. RepresentsSome (Fits rows left) rows p.slot p.tree)) (sym split.first.1) (shows, tt))
 
     pub at_refused : is_null_there s t ≡ false → left < room → (e f : ViewErr) → ((u : Data) → StandsFor rows x.piece u → IsTree u → Checks rows left x.slot u (Err e))
         → ((p : Spot) → IsSpotted rows x p → Faults rows left p.slot p.tree e → PartFaults rows left p f) → Faults rows room s t f
@@ -223,7 +223,7 @@ module _ (rows : List Row) (room : ℕ) (s : Slot) (t : Data) (left : ℕ) (part
           why_is = h.why_is;
         }
 
-  pub walk_ends : IsSchema rows → IsLegible rows → IsTree t → left < room → ((ps : List Spot) → HasLeft rows parts ps → ps ≡ []) → Shows (Fits rows room) rows s t
+  pub walk_ends : IsSchema rows → IsLegible rows → IsTree t → left < room → ((ps : List Spot) → HasLeft rows parts ps → ps ≡ []) → RepresentsSome (Fits rows room) rows s t
   walk_ends schema legible tree less none =
       let are : AreParts w.type t w.done = subst (AreParts w.type t) (ap (λ ps. w.done ++ ps) (none w.rest w.has) ∙ nothing_behind w.done) w.are in
       parts_fit rows s t tree legible.clear legible.delims w.type w.form room left w.none w.done are (table_parts rows schema s w.type w.form t w.done tree are) w.room_is less w.shown
@@ -238,7 +238,7 @@ module _ (rows : List Row) (room : ℕ) (s : Slot) (t : Data) (left : ℕ) (part
 
 -- the piece is refused
 pub refused_by_itself : (rows : List Row) → IsSchema rows → (room : ℕ) (s : Slot) → s.ty.0 < length rows → (t : Data) (stop : Stop) → is_null_there s t ≡ false
-    → ((d : TypeDef) → meant rows s.ty.0 ≡ Some d → Opens rows room d t (Err stop)) → IsStopped rows room s t stop
+    → ((d : TypeDef) → meant rows s.ty.0 ≡ Some d → OpensPiece rows room d t (Err stop)) → IsStopped rows room s t stop
 refused_by_itself rows schema room s low t stop there opens =
     let x = form_of_slot rows schema s low in
     record { there = there; type = x.0; form = x.1; opens = opens x.0 x.1 }

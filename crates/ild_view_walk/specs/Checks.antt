@@ -10,7 +10,7 @@ use Rattle.ild_schema.specs.declared.number.Slot.{Slot}
 use Rattle.ild_schema.specs.declared.number.TypeNo.{TypeNo}
 use Rattle.ild_schema.specs.declared.row.Row.{Row}
 use Rattle.ild_typed.specs.Fits.{Fits}
-use Rattle.ild_typed.specs.Layers.{Shows}
+use Rattle.ild_typed.specs.Layers.{RepresentsSome}
 use Rattle.ild_typed.specs.Refused.{Refusal, Refused, part_refusal}
 use Rattle.ild_typed.specs.Spots.{Spot, key_spot}
 use Rattle.ild_view_walk.specs.declared.fault.ViewErr.{ViewErr}
@@ -28,7 +28,7 @@ Faults rows room s t (E.Shape ty why at) = IsRefusal rows room s t ty why
 Faults rows room s t E.Memory = Unit {0}
 
 abbrev pub Checks : List Row → ℕ → Slot → Data → Result (Unit {0}) ViewErr → Type 0
-Checks rows room s t (Ok u) = Shows (Fits rows room) rows s t
+Checks rows room s t (Ok u) = RepresentsSome (Fits rows room) rows s t
 Checks rows room s t (Err e) = Faults rows room s t e
 
 -- too little room is told of a key as of any piece
@@ -49,5 +49,5 @@ PartFaults rows room p E.Memory = Unit {0}
 
 -- a text fits as the key of an entry, or the refusal of it as a key
 abbrev pub KeyChecks : List Row → ℕ → TypeNo → List ℕ → Result (Unit {0}) ViewErr → Type 0
-KeyChecks rows room n k (Ok u) = Shows (Fits rows room) rows (plainly n) (text k)
+KeyChecks rows room n k (Ok u) = RepresentsSome (Fits rows room) rows (plainly n) (text k)
 KeyChecks rows room n k (Err e) = PartFaults rows room (key_spot n k []) e

@@ -1,6 +1,6 @@
 //! The check of an item against a slot.
 ghost use Rattle.std.specs.Prelude.{◌<◌, ℕ, IfErr, List, length};
-ghost use Rattle.ild_cbor.specs.Nodes.{Stands};
+ghost use Rattle.ild_cbor.specs.Nodes.{HasData};
 ghost use Rattle.ild_cbor.specs.declared.piece.Piece.TheVariants as P;
 ghost use Rattle.ild_data.specs.Data.{Data};
 ghost use Rattle.ild_schema.specs.declared.number.Slot.{Slot as Place};
@@ -17,7 +17,7 @@ use std::alloc::Global;
 // A refusal with its place in the block, where it is told from the item's first byte on.
 fn in_block(node: &Node<'_>, fault: ViewErr) -> ViewErr
     ensures faults { (rows : List Row) (room : ℕ) (s : Place) (t : Data) → Faults rows room s t fault → Faults rows room s t result }
-    ensures place { (rows : List Row) (room : ℕ) (s : Place) (t : Data) → Stands node.now t → TellsPlaceIn rows room s (P.Node node.now) t fault → TellsPlace rows room s node.now t result }
+    ensures place { (rows : List Row) (room : ℕ) (s : Place) (t : Data) → HasData node.now t → TellsPlaceIn rows room s (P.Node node.now) t fault → TellsPlace rows room s node.now t result }
 {
     match fault {
         ViewErr::Shape { ty, why, at } => ViewErr::Shape {
@@ -41,8 +41,8 @@ pub fn check_item<'b>(
     room: u32,
 ) -> Result<(), ViewErr>
     requires { slot.ty.0 < length acc.now }
-    ensures checks { (t : Data) → Stands node.entry t → Checks acc.now room slot t result }
-    ensures place { (t : Data) → Stands node.entry t → IfErr result (TellsPlace acc.now room slot node.entry t) }
+    ensures checks { (t : Data) → HasData node.entry t → Checks acc.now room slot t result }
+    ensures place { (t : Data) → HasData node.entry t → IfErr result (TellsPlace acc.now room slot node.entry t) }
 {
     match check_piece(alloc, acc, slot, &Piece::Node(node), room) {
         Ok(()) => Ok(()),

@@ -1,7 +1,7 @@
 //! Maps as HAMTs.
 ghost use Rattle.std.specs.Prelude.{◌≡◌, ℕ, List, false};
 ghost use Rattle.ild_data.specs.Data.{Data};
-ghost use Rattle.ild_cbor.specs.Nodes.{Stands};
+ghost use Rattle.ild_cbor.specs.Nodes.{HasData};
 ghost use Rattle.ild_layer_piece.specs.Pieces.{StandsFor};
 ghost use Rattle.ild_schema.specs.Slots.{plainly};
 ghost use Rattle.ild_schema.specs.declared.def.MapForm.TheVariants as MF;
@@ -9,7 +9,7 @@ ghost use Rattle.ild_schema.specs.declared.def.TypeDef.TheVariants as D;
 ghost use Rattle.ild_schema.specs.declared.row.Row.{Row};
 ghost use Rattle.ild_union.specs.Forms.{passes_over};
 ghost use Rattle.ild_view_walk.specs.inside.Inside.{OpensMany};
-ghost use Rattle.ild_view_walk.specs.inside.Opens.{IsOpening, Opens};
+ghost use Rattle.ild_view_walk.specs.inside.Opens.{IsOpening, OpensPiece};
 ghost use Rattle.ild_layer_parts.specs.Ready.{IsIn};
 
 use crate::opening::{Opening, Stop};
@@ -28,7 +28,7 @@ pub(crate) fn open_hamt<'b>(
     room: u32,
 ) -> Result<Option<Opening<'b>>, Stop>
     requires { passes_over piece.now ≡ false }
-    ensures opens { (rows : List Row) (key_at at : ℕ) (t : Data) → StandsFor rows piece.now t → Opens rows room (D.Map key key_at value at (MF.Hamt shape)) t result }
+    ensures opens { (rows : List Row) (key_at at : ℕ) (t : Data) → StandsFor rows piece.now t → OpensPiece rows room (D.Map key key_at value at (MF.Hamt shape)) t result }
     ensures ready { (rows : List Row) → IsIn rows (plainly key) → IsIn rows value → IsOpening rows room result }
     ensures many { OpensMany result }
 {
@@ -48,7 +48,7 @@ fn open_root<'b>(
     node: Node<'b>,
     room: u32,
 ) -> Result<Option<Opening<'b>>, Stop>
-    ensures opens { (rows : List Row) (key_at at : ℕ) (t : Data) → Stands node.entry t → Opens rows room (D.Map key key_at value at (MF.Hamt shape)) t result }
+    ensures opens { (rows : List Row) (key_at at : ℕ) (t : Data) → HasData node.entry t → OpensPiece rows room (D.Map key key_at value at (MF.Hamt shape)) t result }
     ensures ready { (rows : List Row) → IsIn rows (plainly key) → IsIn rows value → IsOpening rows room result }
     ensures many { OpensMany result }
 {

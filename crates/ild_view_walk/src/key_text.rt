@@ -3,7 +3,7 @@ ghost use Rattle.std.specs.Prelude.{◌≡◌, ◌<◌, ◌↔◌, IfOk, length,
 ghost use Rattle.ild_data.specs.Data as T;
 ghost use Rattle.ild_schema.specs.Slots.{plainly};
 ghost use Rattle.ild_typed.specs.Fits.{Fits, IsTextOf};
-ghost use Rattle.ild_typed.specs.Layers.{Shows};
+ghost use Rattle.ild_typed.specs.Layers.{RepresentsSome};
 ghost use Rattle.ild_view_walk.specs.Checks.{KeyChecks};
 
 use crate::fault::ViewErr;
@@ -28,7 +28,7 @@ pub fn fits_text(
     room: u32,
 ) -> Result<bool, AllocError>
     requires { ty.0 < length acc.now }
-    ensures { IfOk result (λ b. (b ≡ true) ↔ Shows (Fits acc.now room) acc.now (plainly ty) (T.text text.now)) }
+    ensures { IfOk result (λ b. (b ≡ true) ↔ RepresentsSome (Fits acc.now room) acc.now (plainly ty) (T.text text.now)) }
 {
     acc.recall();
     match check_key(alloc, acc, ty, text, room) {

@@ -5,7 +5,7 @@ ghost use Rattle.ild_layer_piece.specs.Pieces.{StandsFor};
 ghost use Rattle.ild_schema.specs.declared.def.TypeDef.TheVariants as D;
 ghost use Rattle.ild_schema.specs.declared.row.Row.{Row};
 ghost use Rattle.ild_view_walk.specs.inside.Inside.{OpensMany};
-ghost use Rattle.ild_view_walk.specs.inside.Opens.{IsOpening, Opens};
+ghost use Rattle.ild_view_walk.specs.inside.Opens.{IsOpening, OpensPiece};
 ghost use Rattle.ild_layer_parts.specs.Ready.{IsIn};
 
 use crate::opening::{Opening, Stop};
@@ -20,7 +20,7 @@ pub(crate) fn open_list<'b>(
     piece: &Piece<'b>,
     room: u32,
 ) -> Result<Option<Opening<'b>>, Stop>
-    ensures opens { (rows : List Row) (at : ℕ) (t : Data) → StandsFor rows piece.now t → Opens rows room (D.List elem at) t result }
+    ensures opens { (rows : List Row) (at : ℕ) (t : Data) → StandsFor rows piece.now t → OpensPiece rows room (D.List elem at) t result }
     ensures ready { (rows : List Row) → IsIn rows elem → IsOpening rows room result }
     ensures many { OpensMany result }
 {

@@ -7,7 +7,7 @@ ghost use Rattle.ild_schema.specs.declared.def.MapForm.TheVariants as MF;
 ghost use Rattle.ild_schema.specs.declared.def.TypeDef.TheVariants as D;
 ghost use Rattle.ild_typed.specs.WhyLaws.{KeysRise};
 ghost use Rattle.ild_view_walk.specs.inside.Inside.{OpensMany};
-ghost use Rattle.ild_view_walk.specs.inside.Opens.{IsOpening, Opens};
+ghost use Rattle.ild_view_walk.specs.inside.Opens.{IsOpening, OpensPiece};
 ghost use Rattle.ild_layer_parts.specs.Ready.{IsIn};
 
 use crate::opening::{Opening, Stop};
@@ -25,7 +25,7 @@ pub(crate) fn open_map<'b>(
     room: u32,
 ) -> Result<Option<Opening<'b>>, Stop>
     requires numbered { IsNumbered acc.now piece.now }
-    ensures opens { (key_at at : ℕ) (t : Data) → StandsFor acc.now piece.now t → KeysRise t → Opens acc.now room (D.Map key key_at value at MF.Map) t result }
+    ensures opens { (key_at at : ℕ) (t : Data) → StandsFor acc.now piece.now t → KeysRise t → OpensPiece acc.now room (D.Map key key_at value at MF.Map) t result }
     ensures ready { IsIn acc.now (plainly key) → IsIn acc.now value → IsOpening acc.now room result }
     ensures many { OpensMany result }
 {

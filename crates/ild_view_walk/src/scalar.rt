@@ -7,7 +7,7 @@ ghost use Rattle.ild_schema.specs.declared.def.TypeDef.{TypeDef as Def};
 ghost use Rattle.ild_schema.specs.declared.row.Row.{Row};
 ghost use Rattle.ild_enum.specs.Forms.{IsEnumType, IsUnitType};
 ghost use Rattle.ild_view_walk.specs.inside.Inside.{OpensMany};
-ghost use Rattle.ild_view_walk.specs.inside.Opens.{IsOpening, Opens};
+ghost use Rattle.ild_view_walk.specs.inside.Opens.{IsOpening, OpensPiece};
 ghost use Rattle.ild_layer_fields.specs.Told.{scalar_kind};
 
 use crate::opening::{Opening, Stop};
@@ -22,7 +22,7 @@ pub(crate) fn open_scalar<'b>(
     piece: &Piece<'b>,
     room: u32,
 ) -> Result<Option<Opening<'b>>, Stop>
-    ensures opens { (rows : List Row) (d : Def) (t : Data) → StandsFor rows piece.now t → scalar_kind d ≡ Some wanted → Opens rows room d t result }
+    ensures opens { (rows : List Row) (d : Def) (t : Data) → StandsFor rows piece.now t → scalar_kind d ≡ Some wanted → OpensPiece rows room d t result }
     ensures ready { (rows : List Row) → IsOpening rows room result }
     ensures many { OpensMany result }
 {
@@ -43,7 +43,7 @@ pub(crate) fn open_enum<'b>(
 ) -> Result<Option<Opening<'b>>, Stop>
     requires within { ty.0 < length acc.now }
     requires form { IsEnumType acc.now ty.0 }
-    ensures opens { (d : Def) (t : Data) → StandsFor acc.now piece.now t → meant acc.now ty.0 ≡ Some d → Opens acc.now room d t result }
+    ensures opens { (d : Def) (t : Data) → StandsFor acc.now piece.now t → meant acc.now ty.0 ≡ Some d → OpensPiece acc.now room d t result }
     ensures ready { IsOpening acc.now room result }
     ensures many { OpensMany result }
 {
@@ -65,7 +65,7 @@ pub(crate) fn open_unit<'b>(
     requires within { ty.0 < length acc.now }
     requires form { IsUnitType acc.now ty.0 }
     requires numbered { IsNumbered acc.now piece.now }
-    ensures opens { (d : Def) (t : Data) → StandsFor acc.now piece.now t → meant acc.now ty.0 ≡ Some d → Opens acc.now room d t result }
+    ensures opens { (d : Def) (t : Data) → StandsFor acc.now piece.now t → meant acc.now ty.0 ≡ Some d → OpensPiece acc.now room d t result }
     ensures ready { IsOpening acc.now room result }
     ensures many { OpensMany result }
 {

@@ -7,7 +7,7 @@ ghost use Rattle.ild_typed.specs.Spots.{Spot};
 ghost use Rattle.ild_layer_parts.specs.Part.{IsSpotted};
 ghost use Rattle.ild_layer_parts.specs.Parts.{HasLeft};
 ghost use Rattle.ild_layer_parts.specs.Ready.{AreReady, IsIn, IsInlined, IsReady};
-ghost use Rattle.ild_view_walk.specs.inside.Stacked.{Adds, AreHeld, IsPlain, IsShown, Spreads};
+ghost use Rattle.ild_view_walk.specs.inside.Stacked.{Adds, PartsAreAt, IsPlain, IsShown, Spreads};
 
 use crate::opening::Stop;
 use crate::walk::open_piece;
@@ -70,7 +70,7 @@ pub(crate) fn all_open<'b>(
     todo: Vec<Part<'b>>,
 ) -> Result<bool, AllocError>
     requires { AllByRecursion (IsReady acc.now) todo.items }
-    ensures { IfOk result (λ b. (ps : List Spot) → AreHeld acc.now todo.entry.items ps → AllByRecursion (IsPlain acc.now) ps → (b ≡ true) ↔ AllByRecursion (IsShown acc.now) ps) }
+    ensures { IfOk result (λ b. (ps : List Spot) → PartsAreAt acc.now todo.entry.items ps → AllByRecursion (IsPlain acc.now) ps → (b ≡ true) ↔ AllByRecursion (IsShown acc.now) ps) }
 {
     let mut left = todo;
     for _ in 0..MOST_PIECES {

@@ -7,7 +7,7 @@ ghost use Rattle.ild_schema.specs.Table.{IsWithin as IsTypeWithin};
 ghost use Rattle.ild_schema.specs.declared.def.TypeDef.TheVariants as D;
 ghost use Rattle.ild_typed.specs.Levels.{struct_levels};
 ghost use Rattle.ild_view_walk.specs.inside.Inside.{OpensMany};
-ghost use Rattle.ild_view_walk.specs.inside.Opens.{IsOpening, Opens};
+ghost use Rattle.ild_view_walk.specs.inside.Opens.{IsOpening, OpensPiece};
 
 use crate::opening::{Opening, Stop};
 use ild_cbor::{Piece, Why};
@@ -41,7 +41,7 @@ pub(crate) fn open_struct<'b>(
     requires known { meant acc.now ty.0 ≡ Some (D.Struct def.now) }
     requires parts { IsTypeWithin (length acc.now) (D.Struct def.now) }
     requires numbered { IsNumbered acc.now piece.now }
-    ensures opens { (t : Data) → StandsFor acc.now piece.now t → Opens acc.now room (D.Struct def.now) t result }
+    ensures opens { (t : Data) → StandsFor acc.now piece.now t → OpensPiece acc.now room (D.Struct def.now) t result }
     ensures ready { IsOpening acc.now room result }
     ensures many { OpensMany result }
 {

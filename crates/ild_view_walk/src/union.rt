@@ -9,7 +9,7 @@ ghost use Rattle.ild_schema.specs.declared.def.TypeDef.TheVariants as D;
 ghost use Rattle.ild_typed.specs.Spots.{member_steps};
 ghost use Rattle.ild_union.specs.Forms.{passes_over};
 ghost use Rattle.ild_view_walk.specs.inside.Inside.{IsOpenInside};
-ghost use Rattle.ild_view_walk.specs.inside.Opens.{IsOpening, Opens};
+ghost use Rattle.ild_view_walk.specs.inside.Opens.{IsOpening, OpensPiece};
 
 use crate::opening::{Opening, Stop};
 use ild_cbor::{Piece, Why};
@@ -48,7 +48,7 @@ pub(crate) fn open_union<'b>(
     requires parts { IsTypeWithin (length acc.now) (D.Union def.now) }
     requires numbered { IsNumbered acc.now piece.now }
     requires plain { passes_over piece.now ≡ false }
-    ensures opens { (t : Data) → StandsFor acc.now piece.now t → Opens acc.now room (D.Union def.now) t result }
+    ensures opens { (t : Data) → StandsFor acc.now piece.now t → OpensPiece acc.now room (D.Union def.now) t result }
     ensures ready { IsOpening acc.now room result }
     ensures inside { IsOpenInside acc.now ty.0 piece.now result }
 {

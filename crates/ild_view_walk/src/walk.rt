@@ -8,7 +8,7 @@ ghost use Rattle.ild_schema.specs.declared.def.TypeDef.{TypeDef as Def};
 ghost use Rattle.ild_schema.specs.declared.row.Row.{Row};
 ghost use Rattle.ild_view_walk.specs.Checks.{Checks};
 ghost use Rattle.ild_view_walk.specs.inside.Inside.{IsOpenInside};
-ghost use Rattle.ild_view_walk.specs.inside.Opens.{IsOpening, Opens};
+ghost use Rattle.ild_view_walk.specs.inside.Opens.{IsOpening, OpensPiece};
 ghost use Rattle.ild_layer_parts.specs.Ready.{IsIn, IsInlined};
 ghost use Rattle.ild_view_walk.specs.Told.{TellsPlaceIn};
 
@@ -41,7 +41,7 @@ pub(crate) fn open_piece<'b>(
     requires within { IsIn acc.now slot }
     requires numbered { IsNumbered acc.now piece.now }
     requires inlined { IsInlined acc.now slot piece.now }
-    ensures opens { (d : Def) (t : Data) → StandsFor acc.now piece.now t → meant acc.now slot.ty.0 ≡ Some d → Opens acc.now room d t result }
+    ensures opens { (d : Def) (t : Data) → StandsFor acc.now piece.now t → meant acc.now slot.ty.0 ≡ Some d → OpensPiece acc.now room d t result }
     ensures ready { IsOpening acc.now room result }
     ensures inside { IsOpenInside acc.now slot.ty.0 piece.now result }
 {

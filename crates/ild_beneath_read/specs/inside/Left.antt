@@ -1,7 +1,7 @@
 -- The parts of a piece that are left: data in slots, in the order of the type's parts, and the first of them.
 use Rattle.std.specs.Prelude.{◌≡◌, ◌<◌, ℕ, List, [], ◌∷◌, ◌++◌, length, option_map, Option, Some, None}
 use Rattle.std.specs.List.{AllByRecursion}
-use Rattle.ild_cbor.specs.Nodes.{Stands}
+use Rattle.ild_cbor.specs.Nodes.{HasData}
 use Rattle.ild_cbor.specs.Steps.{HasItems}
 use Rattle.ild_cbor.specs.declared.items.Items.{Items}
 use Rattle.ild_cbor.specs.declared.node.Node.{Node}
@@ -70,7 +70,7 @@ parts_left (P.Found fs ns) = length fs.now
 -- a part in its slot stands in front of the others, or nothing does
 abbrev pub IsFirst : List Part → Option (Slot × Node) → List Part → Type 0
 IsFirst ps None others = ps ≡ others
-IsFirst ps (Some x) others = (d : Data) × Stands x.1 d × (ps ≡ (x.0, d) ∷ others)
+IsFirst ps (Some x) others = (d : Data) × HasData x.1 d × (ps ≡ (x.0, d) ∷ others)
 
 pub record SplitsOff (ps : List Part) (o : Option (Slot × Node)) (rest : Parts) : Type 0 where
   pub others : List Part

@@ -3,7 +3,7 @@ use Rattle.std.specs.Prelude.{◌≡◌, ℕ, suc, Bool, true, false, cond, List
 use Rattle.std.specs.List.{AllByRecursion, flat_map}
 use Rattle.ild_beneath.specs.Children.{Child, element_children, found, kind_in, node_children, root_children}
 use Rattle.ild_beneath.specs.Parts.{named_parts}
-use Rattle.ild_cbor.specs.Nodes.{Stands}
+use Rattle.ild_cbor.specs.Nodes.{HasData}
 use Rattle.ild_cbor.specs.Steps.{HasItems}
 use Rattle.ild_cbor.specs.declared.items.Items.{Items}
 use Rattle.ild_cbor.specs.declared.kind.Kind.{Kind}
@@ -58,14 +58,14 @@ Parted rows ps (O.Member u p) = (d : Data) × StandsFor rows p d × (ps ≡ (u, 
 Parted rows ps (O.Root u n) = ⊥
 
 -- what data in a slot tell, by the parts or by the root node
-abbrev pub Opens : List Row → Slot → Data → Opened → Type 0
-Opens rows s t (O.Root u n) = (d : Data) × Stands n d × ((k : ℕ) → found rows (suc k) s t ≡ node_children (found rows k u) (kind_in s) d)
-Opens rows s t o = (ps : List Part) × Parted rows ps o × ((k : ℕ) → found rows (suc k) s t ≡ flat_map (told rows k) ps)
+abbrev pub TellsParts : List Row → Slot → Data → Opened → Type 0
+TellsParts rows s t (O.Root u n) = (d : Data) × HasData n d × ((k : ℕ) → found rows (suc k) s t ≡ node_children (found rows k u) (kind_in s) d)
+TellsParts rows s t o = (ps : List Part) × Parted rows ps o × ((k : ℕ) → found rows (suc k) s t ≡ flat_map (told rows k) ps)
 
 -- the root node of a HAMT with values in a slot, where the data have one
 abbrev pub OpensRoot : Slot → Data → Opened → Type 0
 OpensRoot u t O.Nothing = (f : Data → List Child) (kind : ℕ) → root_children f kind t ≡ []
-OpensRoot u t (O.Root v n) = (v ≡ u) × (d : Data) × Stands n d × ((f : Data → List Child) (kind : ℕ) → root_children f kind t ≡ node_children f kind d)
+OpensRoot u t (O.Root v n) = (v ≡ u) × (d : Data) × HasData n d × ((f : Data → List Child) (kind : ℕ) → root_children f kind t ≡ node_children f kind d)
 OpensRoot u t o = ⊥
 
 -- the types of all parts are in the table, and names are apart

@@ -11,11 +11,11 @@ use Rattle.ild_schema.specs.Slots.{plainly}
 use Rattle.ild_schema.specs.Value as V
 use Rattle.ild_schema.specs.Value.{Value, pairs_list}
 use Rattle.ild_typed.specs.Layer.{Layer}
-use Rattle.ild_typed.specs.Layers.{layer_of, Shows}
+use Rattle.ild_typed.specs.Layers.{layer_of, RepresentsSome}
 
 -- each key of the layer is a text for which some value stands that fits
 abbrev pub KeysIn : (Slot → Value → Type 0) → List Row → TypeDef → Value → Type 0
-KeysIn fits rows (D.Map key key_at value at form) (V.map ps) = AllByRecursion (λ p. Shows fits rows (plainly key) (T.text p.0)) (pairs_list ps)
+KeysIn fits rows (D.Map key key_at value at form) (V.map ps) = AllByRecursion (λ p. RepresentsSome fits rows (plainly key) (T.text p.0)) (pairs_list ps)
 KeysIn fits rows d v = Unit {0}
 
 -- what is known of a value that is no root of a HAMT, not null and not of Any

@@ -8,7 +8,7 @@ use Rattle.ild_schema.specs.Value.{Value}
 use Rattle.ild_typed.specs.Fits.{Fits}
 use Rattle.ild_typed.specs.Judged.{has_hole, breaks_delimiter}
 use Rattle.ild_typed.specs.OfType.{OfType}
-use Rattle.ild_build.specs.PartAt.{part_at}
+use Rattle.ild_build.specs.PartAt.{value_part_at}
 
 -- a type of scalars or of an enum; the data of Any may nest
 abbrev pub is_bare : TypeDef → Bool
@@ -28,4 +28,4 @@ pub record IsLeaf (rows : List Row) (s : Slot) (v : Value) : Type 0 where
 
 -- a type of whose values every part is one
 pub record HasLeaves (rows : List Row) (d : TypeDef) : Type 0 where
-  pub each : (v : Value) (i : ℕ) (u : Slot) (w : Value) → part_at (Some d) v i ≡ Some (u, w) → IsLeaf rows u w
+  pub each : (v : Value) (i : ℕ) (u : Slot) (w : Value) → value_part_at (Some d) v i ≡ Some (u, w) → IsLeaf rows u w

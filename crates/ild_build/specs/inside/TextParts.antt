@@ -10,7 +10,7 @@ use Rattle.ild_schema.specs.declared.def.KindWord.TheVariants as K
 use Rattle.ild_schema.specs.declared.row.Row.{Row}
 use Rattle.ild_schema.specs.DataKinds.{same_kind}
 use Rattle.ild_schema.specs.Joins.{pair_text}
-use Rattle.ild_schema.specs.Marks.{field_text, text_of, kind_of}
+use Rattle.ild_schema.specs.Marks.{field_text, mark_text, mark_kind}
 use Rattle.ild_schema.specs.Slots.{plainly}
 use Rattle.ild_schema.specs.Value.{Value}
 use Rattle.ild_typed.specs.Strings.{cons_both}
@@ -42,8 +42,8 @@ entry_texts rows value (p ∷ ps) = cons_both (option_map {U = List ℕ × List 
 
 -- of a member by its form: behind its prefix, or itself where it is marked as a text
 abbrev pub by_form : UnionForm → Member → Option (List ℕ) → Option (List ℕ)
-by_form UF.StringPrefix m o = option_and_then (λ prefix. option_map (λ t. prefix ++ t) o) (text_of m.mark)
-by_form UF.Kinded m o = option_and_then (λ k. cond (same_kind k K.Text) o None) (kind_of m.mark)
+by_form UF.StringPrefix m o = option_and_then (λ prefix. option_map (λ t. prefix ++ t) o) (mark_text m.mark)
+by_form UF.Kinded m o = option_and_then (λ k. cond (same_kind k K.Text) o None) (mark_kind m.mark)
 by_form form m o = None
 
 abbrev pub member_text_rep : List Row → UnionDef → ℕ → Value → Option (List ℕ)

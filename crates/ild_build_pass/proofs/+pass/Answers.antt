@@ -3,7 +3,7 @@ use Rattle.std.proofs.lemmas.List.{take_all}
 use Rattle.ild_data.specs.Spell.{spell_text}
 use Rattle.ild_emit.proofs.Growing.{grown_same, grown_then, on_err_always}
 use Rattle.ild_schema.specs.Clear.{KeysApart}
-use Rattle.ild_schema.specs.Marks.{text_of as mark_text}
+use Rattle.ild_schema.specs.Marks.{mark_text}
 use Rattle.ild_schema.specs.Slots.{plainly}
 use Rattle.ild_schema.specs.Value.{height, optionals_list, pairs_list, values_list}
 use Rattle.ild_schema.specs.ValueSeen.{value_of}

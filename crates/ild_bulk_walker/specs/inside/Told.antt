@@ -7,7 +7,7 @@ use Rattle.ild_data.specs.Spell.{spell}
 use Rattle.ild_data.specs.Trie.{TrieSlot, node_data}
 use Rattle.ild_data.specs.declared.hamt_shape.HamtShape.{HamtShape}
 use Rattle.ild_cbor.specs.Chain.{chain}
-use Rattle.ild_cbor.specs.Nodes.{Stands, block_of, start_of}
+use Rattle.ild_cbor.specs.Nodes.{HasData, block_of, start_of}
 use Rattle.ild_cbor.specs.Steps.{HasItems, items_of}
 use Rattle.ild_cbor.specs.declared.items.Items.{Items as ItemsLeft}
 use Rattle.ild_cbor.specs.declared.node.Node.{Node}
@@ -20,7 +20,7 @@ use Rattle.ild_bulk_walker.specs.declared.step.Step.{Step}
 -- a key stands in a block, and behind it the spelling of the value for which a node stands
 pub record Lies (b key : List ℕ) (v : Node) (d : Data) : Type 0 where
   pub text : IsUtf8 key
-  pub stands : Stands v d
+  pub stands : HasData v d
   pub front : List ℕ
   pub after : List ℕ
   pub is : b ≡ front ++ (key ++ (spell d ++ after))
@@ -49,7 +49,7 @@ pub record HasEntriesIn (block : List ℕ) (count : ℕ) (s : ItemsLeft) : Type 
 -- an item stands in a block
 pub record IsNodeIn (block : List ℕ) (n : Node) : Type 0 where
   pub of : Data
-  pub stands : Stands n of
+  pub stands : HasData n of
   pub here : block_of n ≡ block
 
 -- ---- the steps of data

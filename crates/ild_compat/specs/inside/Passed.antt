@@ -21,6 +21,6 @@ pub record IsRefused (rows others : List Row) (p : Pair) (d : Differ) : Type 0 w
   pub next : d.next ≡ p.next
   pub fails : types_agree d.rule (meant rows p.first.0) (meant others p.next.0) ≡ false
 
-abbrev pub Passes : List Row → List Row → Pair → List Pair → Option Differ → Type 0
-Passes rows others p pairs None = IsPassed rows others p pairs
-Passes rows others p pairs (Some d) = IsRefused rows others p d ⊎ HasNull (asked rows others (plainly p.first) (plainly p.next)) d
+abbrev pub PairPasses : List Row → List Row → Pair → List Pair → Option Differ → Type 0
+PairPasses rows others p pairs None = IsPassed rows others p pairs
+PairPasses rows others p pairs (Some d) = IsRefused rows others p d ⊎ HasNull (asked rows others (plainly p.first) (plainly p.next)) d

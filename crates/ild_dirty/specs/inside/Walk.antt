@@ -107,7 +107,7 @@ pub record IsSoFar (own : List (List ℕ)) (children : ℕ → List ℕ → List
   pub follows : Follows own children spots [] order
 
 -- what one pass over the places leaves
-pub record Passes (own : List (List ℕ)) (children : ℕ → List ℕ → List (List ℕ × ℕ)) (spots : List (ℕ × ℕ)) (old : List ℕ) (more : Bool) (new : List ℕ) (marks : List Bool) : Type 0 where
+pub record PassesSpots (own : List (List ℕ)) (children : ℕ → List ℕ → List (List ℕ × ℕ)) (spots : List (ℕ × ℕ)) (old : List ℕ) (more : Bool) (new : List ℕ) (marks : List Bool) : Type 0 where
   pub so_far : IsSoFar own children spots new marks
   pub grown : length old ≤ length new
   pub longer : more ≡ true → length old < length new

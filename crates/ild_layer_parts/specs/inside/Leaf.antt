@@ -13,17 +13,17 @@ use Rattle.ild_schema.specs.declared.def.Field.{Field}
 use Rattle.ild_schema.specs.declared.number.Slot.{Slot}
 use Rattle.ild_schema.specs.declared.row.Row.{Row}
 use Rattle.ild_typed.specs.Fits.{Fits}
-use Rattle.ild_typed.specs.Layers.{Shows}
+use Rattle.ild_typed.specs.Layers.{RepresentsSome}
 use Rattle.ild_typed.specs.Spots.{Spot, value_spot}
 use Rattle.ild_typed.specs.Strings.{pair_data}
 use Rattle.ild_layer_parts.specs.Part.{FitsAnywhere}
 
 -- all data of the kind are values of the slot
 abbrev pub FitsOfKind : List Row → Slot → Kind → Type 0
-FitsOfKind rows s k = (t : Data) → kind_of t ≡ k → IsTree t → (room : ℕ) → Shows (Fits rows room) rows s t
+FitsOfKind rows s k = (t : Data) → kind_of t ≡ k → IsTree t → (room : ℕ) → RepresentsSome (Fits rows room) rows s t
 
 -- some spots are passed over, whose data are values, and the others are left
-pub record Passes (rows : List Row) (ps : List Spot) (Left : List Spot → Type 0) : Type 0 where
+pub record PassesOver (rows : List Row) (ps : List Spot) (Left : List Spot → Type 0) : Type 0 where
   pub taken : List Spot
   pub others : List Spot
   pub is : ps ≡ taken ++ others

@@ -53,7 +53,7 @@ FindAnswer rows ty id m (Err F.Store) n = Rose m.faults n.faults
 FindAnswer rows ty id m (Err F.Memory) n = Unit {0}
 
 -- by one get
-pub record Finds (rows : List Row) (ty : TypeNo) (id : List ℕ) (m : Moment) (result : Result Doc OpenFault) (n : Moment) : Type 0 where
+pub record GetFinds (rows : List Row) (ty : TypeNo) (id : List ℕ) (m : Moment) (result : Result Doc OpenFault) (n : Moment) : Type 0 where
   pub answer : FindAnswer rows ty id m result n
   pub only : OnlyReads m n
   pub gets : n.gets ≤ m.gets + 1

@@ -1,6 +1,6 @@
 -- What is wrong in a HAMT, as it is told of a node on its tree; and what going over the parts of a node answers.
 use Rattle.std.specs.Prelude.{◌≡◌, ◌⊎◌, ℕ, ◌∷◌, List, reverse, slice_get, Option, Some, IsUtf8, Result}
-use Rattle.ild_cbor.specs.Nodes.{Stands}
+use Rattle.ild_cbor.specs.Nodes.{HasData}
 use Rattle.ild_cbor.specs.declared.node.Node.{Node}
 use Rattle.ild_cbor.specs.declared.why.BlockWhy.{BlockWhy}
 use Rattle.ild_data.specs.Data.{Data}
@@ -66,7 +66,7 @@ module _ (h : List ℕ → List ℕ) (p : HamtShape) (rows : List Row) (room : �
   -- an entry in the bucket at an index, its key and the node of its value
   abbrev pub PassesBucketEntry : List ℕ → List ℕ → ℕ → List ℕ → Node → Moment → Result (Unit {0}) OpenFault → Moment → Type 0
   PassesBucketEntry way at i k item m r n =
-      (slots : List TrieSlot) (es : List (List ℕ × Data)) (j : ℕ) (e : List ℕ × Data) → slice_get slots i ≡ Some (bucket es) → slice_get es j ≡ Some e → k ≡ e.0 → IsUtf8 e.0 → Stands item e.1
+      (slots : List TrieSlot) (es : List (List ℕ × Data)) (j : ℕ) (e : List ℕ × Data) → slice_get slots i ≡ Some (bucket es) → slice_get es j ≡ Some e → k ≡ e.0 → IsUtf8 e.0 → HasData item e.1
       → PassesEntry way at slots i e m r n
 
   -- the child of this id at an index

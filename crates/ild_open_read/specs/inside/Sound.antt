@@ -1,6 +1,6 @@
 -- HAMTs that were found sound: their values are held, wherever their roots stand as what they were read as; and nodes beneath roots.
 use Rattle.std.specs.Prelude.{◌≡◌, ◌⊎◌, ℕ, ◌+◌, ◌≤◌, ◌++◌, ◌∷◌, [], Bool, false, List, Some, Contains}
-use Rattle.ild_cbor.specs.Nodes.{Stands}
+use Rattle.ild_cbor.specs.Nodes.{HasData}
 use Rattle.ild_cbor.specs.declared.node.Node.{Node}
 use Rattle.ild_data.specs.Data.{Data}
 use Rattle.ild_data.specs.Limits.{IsWithin, deepest}
@@ -48,11 +48,11 @@ pub record IsPassed (keep : Bool) (known : Known) (kind : ReadAs) (root : Node) 
   pub off : keep ≡ false
   pub bytes : List ℕ
   pub has : IsKnown (known_in known) kind bytes
-  pub tells : (t : Data) → Stands root t → bytes ≡ spell t
+  pub tells : (t : Data) → HasData root t → bytes ≡ spell t
 
 -- at most the bytes at which a root stands came to those that are known
 pub record Remembers (old new : Known) (kind : ReadAs) (root : Node) : Type 0 where
   pub bytes : List ℕ
-  pub tells : (t : Data) → Stands root t → bytes ≡ spell t
+  pub tells : (t : Data) → HasData root t → bytes ≡ spell t
   pub added : (r : ReadAs × List ℕ) → Contains (known_in new) r → Contains (known_in old) r ⊎ (r ≡ (kind, bytes))
   pub nodes : nodes_in new ≡ nodes_in old

@@ -3,7 +3,7 @@ use Rattle.std.specs.Prelude.{◌≡◌, ℕ, Bool, IsSomeAnd, List, Some, Resul
 use Rattle.ild_data.specs.Data.{Data}
 use Rattle.ild_data.specs.Spell.{spell}
 use Rattle.ild_path_block.specs.Changes.{Allows}
-use Rattle.ild_path_block.specs.Edits.{Edits}
+use Rattle.ild_path_block.specs.Edits.{EditsPart}
 use Rattle.ild_path_block.specs.Items.{becoming}
 use Rattle.ild_path_block.specs.Spliced.{IsReplaced}
 use Rattle.ild_path_block.specs.declared.answer.Replaced.{Replaced}
@@ -37,11 +37,11 @@ SetsPart views segments k block result =
 -- the item of what an edit at a path makes of the holder to which so many segments lead
 abbrev pub MakesHolder : View → List (List ℕ) → PartEdit → ℕ → Result (List ℕ) SpliceErr → Type 0
 MakesHolder root path edit from result =
-    (is_key : ℕ → List ℕ → Bool) (f w c : Value) (t u d : Data) → Edits is_key root path edit f w c t u
+    (is_key : ℕ → List ℕ → Bool) (f w c : Value) (t u d : Data) → EditsPart is_key root path edit f w c t u
     → IsMade (table_of root) is_key edit w (slot_of root, f) path from d → MakesBlock (spell d) result
 
 -- the block of what an edit at a path makes of the whole, of which this holder is replaced
 abbrev pub MakesWhole : View → List (List ℕ) → PartEdit → Replaced → Result (List ℕ) SpliceErr → Type 0
 MakesWhole root path edit holder result =
-    (is_key : ℕ → List ℕ → Bool) (f w c : Value) (t u : Data) → Edits is_key root path edit f w c t u
+    (is_key : ℕ → List ℕ → Bool) (f w c : Value) (t u : Data) → EditsPart is_key root path edit f w c t u
     → IsReplaced (table_of root) is_key edit w (slot_of root, f) path t u holder → MakesBlock (spell u) result

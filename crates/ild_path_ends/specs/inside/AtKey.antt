@@ -1,7 +1,7 @@
 -- An edit of an entry of a HAMT in a block.
 use Rattle.std.specs.Prelude.{◌≡◌, ℕ, Bool, true, IfSome, is_some, List, [], ◌∷◌, ◌++◌, Option, Some, Result}
 use Rattle.std.specs.FinMap.{put as insert}
-use Rattle.ild_cbor.specs.Nodes.{Stands}
+use Rattle.ild_cbor.specs.Nodes.{HasData}
 use Rattle.ild_cbor.specs.declared.node.Node.{Node}
 use Rattle.ild_data.specs.ByteOrder.{bytewise, without as remove}
 use Rattle.ild_data.specs.Data.{Data}
@@ -38,7 +38,7 @@ use Rattle.ild_path_ends.specs.Steps.{IsKeyIn}
 
 -- an entry with the item's data
 abbrev pub MakesEntry : Node → Option Entry → Type 0
-MakesEntry n result = (t : Data) → Stands n t → IfSome result (λ e. data_in e ≡ t)
+MakesEntry n result = (t : Data) → HasData n t → IfSome result (λ e. data_in e ≡ t)
 
 -- a value of this slot in a room is held, and the path leads in its block to a HAMT
 pub record IsKeyLevel (h : List ℕ → List ℕ) (is_key : ℕ → List ℕ → Bool) (rows : List Row) (s : Slot) (was : List (List ℕ)) (front : List (List ℕ)) (k : List ℕ) (found : Trail) : Type 0 where
@@ -58,7 +58,7 @@ pub record IsKeySet (h : List ℕ → List ℕ) (is_key : ℕ → List ℕ → B
   pub w : Value
   pub d : Data
   pub comes : IsHeld (block_at was) h rows around level.key.elem d w
-  pub stands : Stands n d
+  pub stands : HasData n d
   pub u : Data
   pub tree : represented (whole h) rows s (with_set rows s level.v front level.key.ps k w) ≡ Some u
   pub fits : Fits rows level.less s (with_set rows s level.v front level.key.ps k w)

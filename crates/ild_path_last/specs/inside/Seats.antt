@@ -26,11 +26,11 @@ pub record IsSeat (seat : Seat) (place : ℕ) (there : Option Data) : Type 0 whe
   pub there_is : seat.there ≡ is_some there
 
 -- an iterator behind the first pair, where that has this key
-abbrev pub Passes : List ℕ → List (List ℕ × Data) → Option Items → Type 0
-Passes k [] None = Unit {0}
-Passes k [] (Some s) = ⊥
-Passes k (e ∷ es) None = same_text k e.0 ≡ false
-Passes k (e ∷ es) (Some s) = (same_text k e.0 ≡ true) × HasPairs s es
+abbrev pub SeatIsBehind : List ℕ → List (List ℕ × Data) → Option Items → Type 0
+SeatIsBehind k [] None = Unit {0}
+SeatIsBehind k [] (Some s) = ⊥
+SeatIsBehind k (e ∷ es) None = same_text k e.0 ≡ false
+SeatIsBehind k (e ∷ es) (Some s) = (same_text k e.0 ≡ true) × HasPairs s es
 
 -- the place of a field's pair among those that are written before it, and whether it is written
 abbrev pub FindsField : Items → List Field → ℕ → Seat → Type 0

@@ -11,7 +11,7 @@ use Rattle.ild_path_marked.specs.declared.part.Part.{Part}
 use Rattle.ild_path_marked.specs.declared.part.Part.TheVariants as P
 use Rattle.ild_schema.specs.DataKinds.{same_kind}
 use Rattle.ild_schema.specs.Hex.{bytes_of_hex}
-use Rattle.ild_schema.specs.Marks.{kind_of}
+use Rattle.ild_schema.specs.Marks.{mark_kind}
 use Rattle.ild_schema.specs.declared.def.KindWord.{KindWord}
 use Rattle.ild_schema.specs.declared.def.KindWord.TheVariants as W
 use Rattle.ild_schema.specs.declared.def.Mark.{Mark}
@@ -61,4 +61,4 @@ word_of K.Link = W.Link
 
 -- the mark is a kind, and this one
 abbrev pub is_kind : Mark → KindWord → Bool
-is_kind mark word = option_map_or (λ k. same_kind k word) (kind_of mark) false
+is_kind mark word = option_map_or (λ k. same_kind k word) (mark_kind mark) false

@@ -75,7 +75,7 @@ FindFails m (Err N.Batch) n = ⊥
 FindFails m (Err N.Clash) n = ⊥
 FindFails m result n = Unit {0}
 
-pub record Finds (h : List ℕ → List ℕ) (d : Doc) (verb : Verb) (path : List (List ℕ)) (m : Moment) (result : Result Place No) (n : Moment) : Type 0 where
+pub record PlaceIsFound (h : List ℕ → List ℕ) (d : Doc) (verb : Verb) (path : List (List ℕ)) (m : Moment) (result : Result Place No) (n : Moment) : Type 0 where
   pub only : OnlyReads m n
   pub of : IsInDoc d result
   pub done : IsFor verb result
@@ -84,7 +84,7 @@ pub record Finds (h : List ℕ → List ℕ) (d : Doc) (verb : Verb) (path : Lis
       → Stands bare (block_at held) h (table_in d) (type_in d) (id_of (block_in d)) v → FindsIn h (table_in d) held (plainly (type_in d), v) path verb m result n
 
 -- as a line that asks for the edit is due
-pub record Makes (h : List ℕ → List ℕ) (rows : List Row) (t : Tests) (n : TypeNo) (v : Value) (e : Edit (List ℕ)) (m : Moment) (result : Result (List ℕ) No) (k : Moment) : Type 0 where
+pub record RootIsMade (h : List ℕ → List ℕ) (rows : List Row) (t : Tests) (n : TypeNo) (v : Value) (e : Edit (List ℕ)) (m : Moment) (result : Result (List ℕ) No) (k : Moment) : Type 0 where
   pub answer : MoveAnswer h rows t n v e m result k
   pub gains : Gains m (due_of h rows t n v e) k
   pub still : (due_of h rows t n v e).puts ≡ 0 → k.blocks ≡ m.blocks
@@ -94,4 +94,4 @@ pub record Makes (h : List ℕ → List ℕ) (rows : List Row) (t : Tests) (n : 
 pub record MakesRoot (h : List ℕ → List ℕ) (d : Doc) (e : Edit (List ℕ)) (m : Moment) (result : Result (List ℕ) No) (k : Moment) : Type 0 where
   pub later : Later m k
   pub fails : Fails m result k
-  pub makes : (t : Tests) (v : Value) → AreTests (table_in d) t → IsHeldAt h d t m v → Makes h (table_in d) t (type_in d) v e m result k
+  pub makes : (t : Tests) (v : Value) → AreTests (table_in d) t → IsHeldAt h d t m v → RootIsMade h (table_in d) t (type_in d) v e m result k

@@ -24,14 +24,14 @@ use Rattle.ild_schema.specs.declared.number.TypeNo.{TypeNo}
 use Rattle.ild_schema.specs.declared.row.Row.{Row}
 use Rattle.ild_hamt_trie.specs.Way.{way}
 use Rattle.ild_typed.specs.Fits.{Fits}
-use Rattle.ild_typed.specs.Layers.{Shows}
+use Rattle.ild_typed.specs.Layers.{RepresentsSome}
 use Rattle.ild_typed.specs.Slots.{element_of}
 use Rattle.ild_view.specs.View.{IsViewAt}
 use Rattle.ild_view.specs.declared.view.View.{View}
 use Rattle.ild_view_walk.specs.Checks.{IsRefusal}
 use Rattle.ild_bulk_walker.specs.Trees.{HoldsBelow}
 use Rattle.ild_run_follow.specs.inside.Faults.{entered_as}
-use Rattle.ild_run_follow.specs.Refuses.{Refuses}
+use Rattle.ild_run_follow.specs.Refuses.{RefusesBlock}
 use Rattle.ild_run_follow.specs.Tells.{FailsOnly}
 use Rattle.ild_run_follow.specs.declared.fault.ReadFault.{ReadFault}
 use Rattle.ild_run_follow.specs.declared.fault.ReadFault.TheVariants as F
@@ -64,9 +64,9 @@ pub record WalksTrie (h : List ℕ → List ℕ) (p : HamtShape) (k : List ℕ) 
 
 -- data of an entry are viewed where they have a front
 abbrev pub ChecksEntry : List Row → Option TypeDef → Node → Data → Result View ReadFault → Type 0
-ChecksEntry rows d node t (Ok view) = (slot : Slot) × (element_of d ≡ Some slot) × IsViewAt rows slot (P.Node node) view × Shows (Fits rows 96) rows slot t
+ChecksEntry rows d node t (Ok view) = (slot : Slot) × (element_of d ≡ Some slot) × IsViewAt rows slot (P.Node node) view × RepresentsSome (Fits rows 96) rows slot t
 ChecksEntry rows d node t (Err F.Path) = ⊥
-ChecksEntry rows d node t (Err (F.Block id why)) = (slot : Slot) → element_of d ≡ Some slot → Shows (Fits rows 96) rows slot t → ⊥
+ChecksEntry rows d node t (Err (F.Block id why)) = (slot : Slot) → element_of d ≡ Some slot → RepresentsSome (Fits rows 96) rows slot t → ⊥
 ChecksEntry rows d node t (Err F.Store) = ⊥
 ChecksEntry rows d node t (Err F.Memory) = Unit {0}
 
@@ -81,4 +81,4 @@ pub record IsRefusedEntry (rows : List Row) (d : Option TypeDef) (block : List �
   pub refused : IsRefusal rows deepest slot t type cause
 
 abbrev pub RefusesEntry : List Row → Option TypeDef → List ℕ → Data → Result View ReadFault → Type 0
-RefusesEntry rows d block t r = Refuses (λ id why. IsRefusedEntry rows d block t id why) r
+RefusesEntry rows d block t r = RefusesBlock (λ id why. IsRefusedEntry rows d block t id why) r

@@ -5,7 +5,7 @@ use Rattle.ild_schema.specs.declared.def.Field.{Field}
 use Rattle.ild_schema.specs.declared.def.Member.{Member}
 use Rattle.ild_schema.specs.declared.def.EnumMember.{EnumMember}
 use Rattle.ild_schema.specs.declared.row.Row.{Row}
-use Rattle.ild_schema.specs.Marks.{text_of, field_text, member_text}
+use Rattle.ild_schema.specs.Marks.{mark_text, field_text, member_text}
 use Rattle.ild_schema.specs.Spelled.{SpelledType, NamedType, ImplicitType, SpelledScalar}
 
 pub record FieldTexts (f : Field) : Type 0 where
@@ -15,7 +15,7 @@ pub record FieldTexts (f : Field) : Type 0 where
 
 pub record MemberTexts (m : Member) : Type 0 where
   pub name : IsUtf8 m.name
-  pub mark : IfSome (text_of m.mark) IsUtf8
+  pub mark : IfSome (mark_text m.mark) IsUtf8
 
 pub record EnumMemberTexts (m : EnumMember) : Type 0 where
   pub name : IsUtf8 m.name

@@ -1,7 +1,7 @@
 -- What a reader of one form answers: where the parts are looked up, or the first cause why the data are no struct's.
 use Rattle.std.specs.Prelude.{◌≡◌, ℕ, Bool, true, cond, List, Option, Some, None, Result, Ok, Err, length}
 use Rattle.ild_data.specs.Data.{Data}
-use Rattle.ild_cbor.specs.Nodes.{Stands}
+use Rattle.ild_cbor.specs.Nodes.{HasData}
 use Rattle.ild_cbor.specs.declared.node.Node.{Node}
 use Rattle.ild_cbor.specs.declared.why.Why.{Why}
 use Rattle.ild_schema.specs.declared.def.Field.{Field}
@@ -10,21 +10,21 @@ use Rattle.ild_schema.specs.declared.row.Row.{Row}
 use Rattle.ild_typed.specs.Fields.{is_implicit}
 use Rattle.ild_layer_piece.specs.Answers.{told}
 use Rattle.ild_layer_fields.specs.Causes.{struct_why}
-use Rattle.ild_struct.specs.Source.{Shows}
+use Rattle.ild_struct.specs.Source.{FormShows}
 use Rattle.ild_struct.specs.declared.source.Source.{Source}
 
-abbrev pub Answers : List Row → StructForm → List Field → Data → Result Source Why → Type 0
-Answers rows form fs t (Ok source) = (struct_why form fs t ≡ None) × Shows rows form source t
-Answers rows form fs t (Err why) = struct_why form fs t ≡ Some (told why)
+abbrev pub FormIsRead : List Row → StructForm → List Field → Data → Result Source Why → Type 0
+FormIsRead rows form fs t (Ok source) = (struct_why form fs t ≡ None) × FormShows rows form source t
+FormIsRead rows form fs t (Err why) = struct_why form fs t ≡ Some (told why)
 
 -- the same, where it is told as well whether kinds tell that all values are those of their fields
 abbrev pub AnswersFound : List Row → StructForm → List Field → Data → Result (Source × Bool) Why → Type 0
-AnswersFound rows form fs t (Ok x) = Answers rows form fs t (Ok x.0)
-AnswersFound rows form fs t (Err why) = Answers rows form fs t (Err why)
+AnswersFound rows form fs t (Ok x) = FormIsRead rows form fs t (Ok x.0)
+AnswersFound rows form fs t (Err why) = FormIsRead rows form fs t (Err why)
 
 -- a node that is a list, and how many items it has
 abbrev pub IsList : Option (List Data) → Data → Option (Node × ℕ) → Type 0
-IsList (Some ds) t (Some x) = Stands x.0 t × (x.1 ≡ length ds)
+IsList (Some ds) t (Some x) = HasData x.0 t × (x.1 ≡ length ds)
 IsList None t None = Unit {0}
 IsList (Some ds) t None = ⊥
 IsList None t (Some x) = ⊥

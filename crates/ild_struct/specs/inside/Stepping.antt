@@ -15,11 +15,11 @@ pub record TakesFirst (fs : List Field) (x : ℕ × Data) (xs : List (ℕ × Dat
   pub stands : (rows : List Row) → StandsFor rows r.1 x.1
   pub left : Leaves fs r.2 (r.0 + 1) xs
 
-abbrev pub Takes : List Field → List (ℕ × Data) → Option (ℕ × Piece × Left) → Type 0
-Takes fs [] None = Unit {0}
-Takes fs [] (Some r) = ⊥
-Takes fs (x ∷ xs) None = ⊥
-Takes fs (x ∷ xs) (Some r) = TakesFirst fs x xs r
+abbrev pub TakesField : List Field → List (ℕ × Data) → Option (ℕ × Piece × Left) → Type 0
+TakesField fs [] None = Unit {0}
+TakesField fs [] (Some r) = ⊥
+TakesField fs (x ∷ xs) None = ⊥
+TakesField fs (x ∷ xs) (Some r) = TakesFirst fs x xs r
 
 -- what is written, each of a field that is there
 pub record Written (fs : List Field) (os : List (Option Data)) (xs : List (ℕ × Data)) : Type 0 where

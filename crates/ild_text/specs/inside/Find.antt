@@ -12,5 +12,5 @@ pub record IsNext (delim text : List ℕ) (from at : ℕ) : Type 0 where
   pub here : Occurs delim text at
   pub first : NoneWithin delim text from at
 
-abbrev pub Finds : List ℕ → List ℕ → ℕ → Option ℕ → Type 0
-Finds delim text from r = MatchOption r ((at : ℕ) → from ≤ at → Occurs delim text at → ⊥) (IsNext delim text from)
+abbrev pub FindsText : List ℕ → List ℕ → ℕ → Option ℕ → Type 0
+FindsText delim text from r = MatchOption r ((at : ℕ) → from ≤ at → Occurs delim text at → ⊥) (IsNext delim text from)

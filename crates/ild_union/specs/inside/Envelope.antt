@@ -6,7 +6,7 @@ use Rattle.ild_data.specs.Key.{same_text, value_at}
 use Rattle.ild_cbor.specs.declared.node.Node.{Node}
 use Rattle.ild_cbor.specs.declared.why.Why.{Why}
 use Rattle.ild_cbor.specs.declared.why.Why.TheVariants as Y
-use Rattle.ild_cbor.specs.Nodes.{Stands}
+use Rattle.ild_cbor.specs.Nodes.{HasData}
 
 -- a name is one of the two keys
 abbrev pub is_one : List ℕ → List ℕ → List ℕ → Bool
@@ -30,4 +30,4 @@ IsOff key content es w = ⊥
 -- nodes for the values under both, or the first cause why the entries are others
 abbrev pub BothAnswer : List ℕ → List ℕ → List (List ℕ × Data) → Result (Node × Node) Why → Type 0
 BothAnswer key content es r =
-    MatchResult r (λ p. (d : Data) × (e : Data) × Stands p.0 d × Stands p.1 e × AreBoth key content d e es) (IsOff key content es)
+    MatchResult r (λ p. (d : Data) × (e : Data) × HasData p.0 d × HasData p.1 e × AreBoth key content d e es) (IsOff key content es)

@@ -22,11 +22,11 @@ pub record HasOpened (rows : List Row) (room : ℕ) (d : TypeDef) (t : Data) (x 
   pub room_is : x.room + needs d t ≡ room
   pub left : HasLeft rows x.parts spots
 
-abbrev pub Opens : List Row → ℕ → TypeDef → Data → Result (Option Opening) Stop → Type 0
-Opens rows room d t (Ok None) = (why_at room d t ≡ None) × AreParts d t []
-Opens rows room d t (Ok (Some x)) = HasOpened rows room d t x
-Opens rows room d t (Err (S.Why w)) = IsWhy room d t (told w)
-Opens rows room d t (Err S.Memory) = Unit {0}
+abbrev pub OpensPiece : List Row → ℕ → TypeDef → Data → Result (Option Opening) Stop → Type 0
+OpensPiece rows room d t (Ok None) = (why_at room d t ≡ None) × AreParts d t []
+OpensPiece rows room d t (Ok (Some x)) = HasOpened rows room d t x
+OpensPiece rows room d t (Err (S.Why w)) = IsWhy room d t (told w)
+OpensPiece rows room d t (Err S.Memory) = Unit {0}
 
 -- the parts can be checked, in less room
 abbrev pub IsOpening : List Row → ℕ → Result (Option Opening) Stop → Type 0
@@ -38,4 +38,4 @@ pub record IsStopped (rows : List Row) (room : ℕ) (s : Slot) (t : Data) (stop 
   pub there : is_null_there s t ≡ false
   pub type : TypeDef
   pub form : form_of rows s ≡ Some type
-  pub opens : Opens rows room type t (Err stop)
+  pub opens : OpensPiece rows room type t (Err stop)

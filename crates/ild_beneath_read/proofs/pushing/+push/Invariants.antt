@@ -1,6 +1,6 @@
 use Rattle.std.proofs.Common.{List, ◌+◌, ◌*◌}
 use Rattle.ild_beneath.specs.Children.{found, node_children}
-use Rattle.ild_cbor.specs.Nodes.{Stands}
+use Rattle.ild_cbor.specs.Nodes.{HasData}
 use Rattle.ild_data.specs.Data.{Data}
 use Rattle.ild_open_held.specs.Splits.{Part}
 use Rattle.ild_beneath_read.specs.inside.Left.{AreWithin, IsLeft, parts_left}
@@ -32,4 +32,4 @@ abbrev pub decreases-push_parts-loop-part : goal.decreases-push_parts-loop-part
 decreases-push_parts-loop-part l = parts_left l.left
 
 abbrev pub invariant-push_node-loop-element : goal.invariant-push_node-loop-element
-invariant-push_node-loop-element l = (d : Data) → Stands l.node d → Walking (found l.acc l.steps l.value) l.kind l.initial.out.items (node_children (found l.acc l.steps l.value) l.kind d) l.left l.out.items
+invariant-push_node-loop-element l = (d : Data) → HasData l.node d → Walking (found l.acc l.steps l.value) l.kind l.initial.out.items (node_children (found l.acc l.steps l.value) l.kind d) l.left l.out.items

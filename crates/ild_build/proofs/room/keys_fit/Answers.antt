@@ -5,7 +5,7 @@ use Rattle.ild_schema.specs.Table.{IsWithin}
 use Rattle.ild_schema.specs.Value.{Value, pairs_list}
 use Rattle.ild_schema.specs.ValueSeen.{value_of}
 use Rattle.ild_typed.specs.Fits.{Fits}
-use Rattle.ild_typed.specs.Layers.{Shows}
+use Rattle.ild_typed.specs.Layers.{RepresentsSome}
 use Rattle.ild_typed.specs.OfType.{OfType}
 use Rattle.ild_build.proofs.EachKey.{AllBefore, a_key, before_next, before_none, keys_all}
 use Rattle.ild_build.proofs.room.keys_fit.Goals as goal
@@ -23,7 +23,7 @@ returns-then-is_leaf c = λ typed.
     let rows = c.args.acc.now in
     let ps = pairs_list h.pairs in
     let leaf = c.is_leaf.ensures c.if-is_leaf.true in
-    let each : AllBefore (λ p. Shows (OfType rows) rows (plainly h.key) (T.text p.0) → Shows (Fits rows c.args.room) rows (plainly h.key) (T.text p.0)) ps (length ps) = λ j p less at x. (x.0, (leaf x.0).room c.args.room x.1, x.2) in
+    let each : AllBefore (λ p. RepresentsSome (OfType rows) rows (plainly h.key) (T.text p.0) → RepresentsSome (Fits rows c.args.room) rows (plainly h.key) (T.text p.0)) ps (length ps) = λ j p less at x. (x.0, (leaf x.0).room c.args.room x.1, x.2) in
     ((λ e. keys_all (Fits rows c.args.room) (OfType rows) rows c.args.def.now (value_of c.args.val.now) h.key h.key_at-0 h.value-0 h.at-0 h.form-0 h.pairs (length ps) h.is-0 (ap value_of h.is-1) (omega arith) each typed), (λ k. refl))
 
 pub returns-then-not-fit : goal.returns-then-not-fit
@@ -32,7 +32,7 @@ returns-then-not-fit c = λ typed.
     let rows = c.args.acc.now in
     let P = Fits rows c.args.room in (
       (λ e. absurd (false_true e)),
-      (λ k. sym c.if-not-fit.true ∙ c.in_ok-fit-in-Map-Map.ensures.1 (subst (λ t. Shows P rows (plainly h.key) (T.text t)) (sym c.as_str.ensures.same)
+      (λ k. sym c.if-not-fit.true ∙ c.in_ok-fit-in-Map-Map.ensures.1 (subst (λ t. RepresentsSome P rows (plainly h.key) (T.text t)) (sym c.as_str.ensures.same)
           (a_key P rows c.args.def.now (value_of c.args.val.now) h.key h.key_at-0 h.value-0 h.at-0 h.form-0 h.pairs c.loop-i.i (c.in-Some.pair.now.0, value_of c.in-Some.pair.now.1) h.is-0 (ap value_of h.is-1) (sym c.in-Some.ensures) k))),
     )
   where
@@ -43,10 +43,10 @@ pub loop-i-preserved : goal.loop-i-preserved
 loop-i-preserved c =
     let h = c.in-Map-Map in
     let rows = c.args.acc.now in
-    let Q : List ℕ × Value → Type 0 = λ p. Shows (OfType rows) rows (plainly h.key) (T.text p.0) → Shows (Fits rows c.args.room) rows (plainly h.key) (T.text p.0) in
+    let Q : List ℕ × Value → Type 0 = λ p. RepresentsSome (OfType rows) rows (plainly h.key) (T.text p.0) → RepresentsSome (Fits rows c.args.room) rows (plainly h.key) (T.text p.0) in
     elim c.match-get.branch [
       | in-Some+in_ok-fit-in-Map-Map+else-not-fit w ↦ before_next Q (pairs_list h.pairs) c.loop-i.i (w.in-Some.pair.now.0, value_of w.in-Some.pair.now.1) (sym w.in-Some.ensures)
-          (λ x. subst (λ t. Shows (Fits rows c.args.room) rows (plainly h.key) (T.text t)) w.as_str.ensures.same (w.in_ok-fit-in-Map-Map.ensures.0 w.if-not-fit.false)) c.loop-i.invariant
+          (λ x. subst (λ t. RepresentsSome (Fits rows c.args.room) rows (plainly h.key) (T.text t)) w.as_str.ensures.same (w.in_ok-fit-in-Map-Map.ensures.0 w.if-not-fit.false)) c.loop-i.invariant
       | in_default-get w ↦ before_none Q (pairs_list h.pairs) c.loop-i.i (sym w.in_default-get.ensures) c.loop-i.invariant
     ]
 

@@ -3,7 +3,7 @@ use Rattle.ild_data.specs.Spell.{spell}
 use Rattle.ild_data.specs.Trie.{node_data}
 use Rattle.ild_data.specs.declared.hamt_shape.HamtShape.{HamtShape}
 use Rattle.ild_node_slots.specs.Form.{IsNode}
-use Rattle.ild_cbor.specs.Nodes.{Stands}
+use Rattle.ild_cbor.specs.Nodes.{HasData}
 use Rattle.ild_cbor.specs.declared.node.Node.{Node}
 use Rattle.ild_cbor.proofs.Blocks.{block_again}
 use Rattle.ild_bulk_walker.proofs.Lying.{root-block}
@@ -27,7 +27,7 @@ pub returns-in-Some : goal.returns-in-Some
 returns-in-Some c = λ p slots has.
     let n = c.in_ok-node.node in
     let same : c.as_slice.result.now ≡ spell n = c.as_slice.ensures.same ∙ c.deref.ensures ∙ c.in_ok-held.ensures.ok ∙ c.into_octets.ensures in
-    let is : n ≡ node_data slots = c.in_ok-node.ensures.same (node_data slots) (subst (λ (m : Node). Stands m (node_data slots)) (sym c.node.ensures) has.stands) in
+    let is : n ≡ node_data slots = c.in_ok-node.ensures.same (node_data slots) (subst (λ (m : Node). HasData m (node_data slots)) (sym c.node.ensures) has.stands) in
     let root = c.known_root.ensures (node_data slots) (root-block c.as_slice.result.now n (node_data slots) c.in_ok-node.ensures.within same is) in
     let told = rw c.in-Some.is at c.in_ok-steps.ensures (node_data slots) root.stands in
     told.1 slots refl (subst (λ (q : HamtShape). IsNode q slots) (sym (c.shape.ensures ∙ has.shape)) has.form)

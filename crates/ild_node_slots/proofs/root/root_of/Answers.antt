@@ -1,7 +1,7 @@
 use Rattle.std.proofs.Common.{refl, sym, ◌∙◌, subst}
 use Rattle.std.proofs.lemmas.Bool.{false≢true}
 use Rattle.ild_data.specs.Data.{Data}
-use Rattle.ild_cbor.specs.Nodes.{Stands}
+use Rattle.ild_cbor.specs.Nodes.{HasData}
 use Rattle.ild_data.specs.Trie.{node_data}
 use Rattle.ild_typed.specs.Hamt.{root_map}
 use Rattle.ild_node_slots.specs.Form.{hash_alg, bucket_size}
@@ -23,10 +23,10 @@ pub returns-in-Some-clause-only : goal.returns-in-Some-clause-only
 returns-in-Some-clause-only c = λ slots t h root.
     let f = c.in-Some.ensures.found t h in
     let same = root-same c.args.shape f.0 (node_data slots) (sym f.1 ∙ root.tree) in
-    c.node_of.ensures.only slots (subst (λ (d : Data). Stands c.in-Some.item d) same f.2.stands) (record { many = root.indices; each = root.each })
+    c.node_of.ensures.only slots (subst (λ (d : Data). HasData c.in-Some.item d) same f.2.stands) (record { many = root.indices; each = root.each })
 
 pub returns-in-None-clause-only : goal.returns-in-None-clause-only
-returns-in-None-clause-only c = λ slots t h root. absurd (false≢true (c.in-None.ensures.only (node_data slots) (subst (λ (d : Data). Stands c.args.node d) root.tree h)))
+returns-in-None-clause-only c = λ slots t h root. absurd (false≢true (c.in-None.ensures.only (node_data slots) (subst (λ (d : Data). HasData c.args.node d) root.tree h)))
 
 pub returns-in-Some-clause-found : goal.returns-in-Some-clause-found
 returns-in-Some-clause-found c = λ t h.

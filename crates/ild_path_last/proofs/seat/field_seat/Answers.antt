@@ -5,7 +5,7 @@ use Rattle.ild_schema.specs.Marks.{field_text}
 use Rattle.ild_path_steps.proofs.Fielding.{field_is}
 use Rattle.ild_path_last.proofs.Passing.{ends_gone, ends_there, next, starts}
 use Rattle.ild_path_last.proofs.seat.field_seat.Goals as goal
-use Rattle.ild_path_last.specs.inside.Seats.{Passes}
+use Rattle.ild_path_last.specs.inside.Seats.{SeatIsBehind}
 
 pub loop-i-init : goal.loop-i-init
 loop-i-init c = (omega arith, λ ds es k g made h apart named place. starts k g c.args.fields.now ds es c.args.number c.args.items made h apart named place)
@@ -37,11 +37,11 @@ returns-in-Some-behind c = λ ds es k g made h apart named place.
     let all = c.args.fields.now in
     let name = c.name_in_block.ensures ∙ ap field_text (field_is all all k c.args.number c.index-fields-number.result g refl c.index-fields-number.is place named) in
     ends_there k g (written_before left_out k all ds) c.args.number (field_data k all ds) (drop c.loop-i.i all) (drop c.loop-i.i ds) c.loop-i.i c.loop-i.place c.loop-i.left c.in-Some-behind.field-0 (c.loop-i.invariant.1 ds es k g made h apart named place) (omega (arith, c.loop-i-test.false))
-    (λ ys at. subst (λ n. Passes n ys (Some c.in-Some-behind.field-0)) name (c.in-Some-behind.ensures ys at))
+    (λ ys at. subst (λ n. SeatIsBehind n ys (Some c.in-Some-behind.field-0)) name (c.in-Some-behind.ensures ys at))
 
 pub returns-in-None : goal.returns-in-None
 returns-in-None c = λ ds es k g made h apart named place.
     let all = c.args.fields.now in
     let name = c.name_in_block.ensures ∙ ap field_text (field_is all all k c.args.number c.index-fields-number.result g refl c.index-fields-number.is place named) in
     ends_gone k g (written_before left_out k all ds) c.args.number (field_data k all ds) (drop c.loop-i.i all) (drop c.loop-i.i ds) c.loop-i.i c.loop-i.place c.loop-i.left (c.loop-i.invariant.1 ds es k g made h apart named place) (omega (arith, c.loop-i-test.false))
-    (λ ys at. subst (λ n. Passes n ys None) name (c.in-None.ensures ys at))
+    (λ ys at. subst (λ n. SeatIsBehind n ys None) name (c.in-None.ensures ys at))

@@ -1,5 +1,5 @@
 use Rattle.std.proofs.Common.{subst}
-use Rattle.ild_cbor.specs.Nodes.{Stands}
+use Rattle.ild_cbor.specs.Nodes.{HasData}
 use Rattle.ild_node.specs.Rows.{deepest_value}
 use Rattle.ild_view.specs.View.{slot_of, table_of}
 use Rattle.ild_path_outward.proofs.Stepping.{entry_nests, item_is, step_none}
@@ -27,7 +27,7 @@ returns-clause-root g c = λ none is_key was k told x root spelled.
     let same = c.as_slice.ensures.same in
     let stands = item_is g.H.KeyHash.hash_of is_key (table_of c.args.root) (slot_of c.args.root) was c.args.front.now k c.args.trail x c.args.new.now c.in-Ok.item found.0 spelled (rw same at found.1) (rw same at found.2) in
     let is = c.in-Ok-renewed.ensures x.d stands in
-    c.set_last.ensures.root none is_key was k told x root (subst (Stands c.node.result) is.tree c.node.ensures.stands)
+    c.set_last.ensures.root none is_key was k told x root (subst (HasData c.node.result) is.tree c.node.ensures.stands)
 
 pub returns-clause-below : goal.returns-clause-below
 returns-clause-below g c = λ is_key rows s was k before above told last x entry spelled.
@@ -35,7 +35,7 @@ returns-clause-below g c = λ is_key rows s was k before above told last x entry
     let same = c.as_slice.ensures.same in
     let stands = item_is g.H.KeyHash.hash_of is_key rows s was c.args.front.now k c.args.trail x c.args.new.now c.in-Ok.item found.0 spelled (rw same at found.1) (rw same at found.2) in
     let is = c.in-Ok-renewed.ensures x.d stands in
-    c.set_last.ensures.below is_key rows s was k before above told last x entry (subst (Stands c.node.result) is.tree c.node.ensures.stands)
+    c.set_last.ensures.below is_key rows s was k before above told last x entry (subst (HasData c.node.result) is.tree c.node.ensures.stands)
 
 pub set_last-requires-clause-nests : goal.set_last-requires-clause-nests
 set_last-requires-clause-nests g c = entry_nests c.args.entry.now c.in-Ok-renewed.value c.in-Ok.item c.node.result deepest_value c.requires.room c.in-Ok-renewed.ensures c.node.ensures.nests

@@ -3,7 +3,7 @@ use Rattle.std.proofs.Math.Logic.{∥∥₁_elim}
 use Rattle.std.proofs.Props.{props}
 use Rattle.ild_path_hops.proofs.Linking.{at_last, none_last}
 use Rattle.ild_path_hops.specs.Links.{IsRootAt}
-use Rattle.ild_cbor.specs.Nodes.{Stands}
+use Rattle.ild_cbor.specs.Nodes.{HasData}
 use Rattle.ild_path_entry.specs.Entry.{IsEntry}
 use Rattle.ild_path_outward.proofs.Stepping.{entry_view, last_is, leads_entry, leads_root, sets_at, sets_in}
 use Rattle.ild_path_outward.proofs.step.set_last.Goals as goal
@@ -15,7 +15,7 @@ returns-in-Some-clause-below g c = λ is_key rows s was k before above told is x
     let view = c.view-level.result in
     let at = c.view-level.ensures in
     let sets = sets_in g.H.KeyHash.hash_of view c.args.front.now c.args.trail c.args.item.now (g.K.Store.moment c.args.store.now) (g.K.Store.moment c.set_entry.new.store) c.set_entry.result c.set_entry.ensures.sets in
-    sets_at g.H.KeyHash.hash_of rows s view c.args.front.now c.args.trail (λ d. Stands c.args.item.now d) (g.K.Store.moment c.args.store.now) (g.K.Store.moment c.set_entry.new.store) c.set_entry.result (at.table ∙ own.table) (at.slot ∙ own.slot) sets is_key was k told x
+    sets_at g.H.KeyHash.hash_of rows s view c.args.front.now c.args.trail (λ d. HasData c.args.item.now d) (g.K.Store.moment c.args.store.now) (g.K.Store.moment c.set_entry.new.store) c.set_entry.result (at.table ∙ own.table) (at.slot ∙ own.slot) sets is_key was k told x
     (entry_view g.H.KeyHash.hash_of rows s x.room x.v x.t c.in-Some.hop.now.entry view x.schema x.held.fits x.held.tree own at.table at.slot at.safe at.whole) stands
 
 pub returns-in-None-clause-root : goal.returns-in-None-clause-root

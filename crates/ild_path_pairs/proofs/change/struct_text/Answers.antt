@@ -4,7 +4,7 @@ use Rattle.ild_data.specs.Data as T
 use Rattle.ild_path_changes.specs.Places.{left_out, written}
 use Rattle.ild_path_pairs.proofs.Placing.{struct_told}
 use Rattle.ild_path_pairs.proofs.change.struct_text.Goals as goal
-use Rattle.ild_path_pairs.specs.Pairs.{TellsPair, text_of}
+use Rattle.ild_path_pairs.specs.Pairs.{TellsPair, borrowed_text}
 use Rattle.ild_path_steps.proofs.Fielding.{field_is, numbered}
 use Rattle.ild_schema.specs.Marks.{field_text}
 use Rattle.ild_text.specs.Parts.{pairs_in}
@@ -14,7 +14,7 @@ returns-in-Some c = λ ds es fresh k g made was apart named place anew.
     let j = c.args.joined.now in
     let fs = c.args.fields.now in
     let seat = c.field_seat-seat in
-    let d = option_map T.text (text_of c.args.new) in
+    let d = option_map T.text (borrowed_text c.args.new) in
     let field = field_is fs fs k c.args.number c.index-fields-number.result g refl c.index-fields-number.is place named in
     let at = ap (slice_get fs) place ∙ numbered k fs g named in
     let new = c.written.ensures ∙ ap (λ x. written left_out x d) field in

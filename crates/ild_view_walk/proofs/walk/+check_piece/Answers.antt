@@ -3,7 +3,7 @@ use Rattle.ild_schema.specs.declared.row.Row.{Row}
 use Rattle.ild_typed.specs.Schema.{IsSchema}
 use Rattle.ild_view_walk.specs.inside.Inside.{IsOpenInside}
 use Rattle.ild_layer_parts.specs.Inside.{IsPieceOf}
-use Rattle.ild_view_walk.specs.inside.Opens.{IsOpening, Opens}
+use Rattle.ild_view_walk.specs.inside.Opens.{IsOpening, OpensPiece}
 use Rattle.ild_layer_parts.specs.Parts.{LeadsOn, SplitsOff}
 use Rattle.ild_layer_parts.specs.Ready.{IsPartReady}
 use Rattle.ild_layer_parts.proofs.Showing.{null_checks, plain_shows}
@@ -27,7 +27,7 @@ returns-in_default-clause-checks m c = λ t stands tree.
     let rows : List Row = c.args.acc.now in
     let schema : IsSchema rows = record { table = c.recall.ensures.table; accepted = c.recall.ensures.accepted } in
     plain_shows rows schema c.recall.ensures.legible c.args.room c.args.slot c.requires.within t tree
-    (λ d is. subst (λ o. Opens rows c.args.room d t (Ok o)) c.in_default.is (c.in-Ok.ensures.opens d t stands is))
+    (λ d is. subst (λ o. OpensPiece rows c.args.room d t (Ok o)) c.in_default.is (c.in-Ok.ensures.opens d t stands is))
 
 pub behind_leaves-parts-requires : goal.behind_leaves-parts-requires
 behind_leaves-parts-requires m c = (subst (λ o. IsOpening c.args.acc.now c.args.room (Ok o)) c.in-Some.is c.in-Ok.ensures.ready).0
@@ -41,7 +41,7 @@ loop-part-init m c =
       ready.1,
       λ t stands tree. past_nothing rows c.args.room c.args.slot t c.in-Some.opening.room c.in-Some.opening.parts
           (opened_begins rows schema c.args.room c.args.slot c.requires.within t c.in-Some.opening
-          (λ d is. subst (λ o. Opens rows c.args.room d t (Ok o)) c.in-Some.is (c.in-Ok.ensures.opens d t stands is))) schema tree c.behind_leaves-parts.result
+          (λ d is. subst (λ o. OpensPiece rows c.args.room d t (Ok o)) c.in-Some.is (c.in-Ok.ensures.opens d t stands is))) schema tree c.behind_leaves-parts.result
           (λ ps h. c.behind_leaves-parts.ensures.passes ps h),
       c.behind_leaves-parts.ensures.inside c.args.slot.ty.0 c.args.piece.now
           (subst (λ o. IsOpenInside rows c.args.slot.ty.0 c.args.piece.now (Ok o)) c.in-Some.is c.in-Ok.ensures.inside),

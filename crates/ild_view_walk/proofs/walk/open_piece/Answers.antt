@@ -4,7 +4,7 @@ use Rattle.ild_schema.specs.declared.def.TypeDef.TheVariants as D
 use Rattle.ild_schema.specs.declared.def.MapForm.{MapForm}
 use Rattle.ild_schema.specs.declared.def.MapForm.TheVariants as MF
 use Rattle.ild_layer_piece.proofs.Stand.{piece_rises}
-use Rattle.ild_view_walk.specs.inside.Opens.{Opens}
+use Rattle.ild_view_walk.specs.inside.Opens.{OpensPiece}
 use Rattle.ild_layer_fields.specs.Told.{scalar_kind}
 use Rattle.ild_view_walk.proofs.Finding.{map_low, pairs_given}
 use Rattle.ild_layer_parts.proofs.Scalars.{type_is}
@@ -50,14 +50,14 @@ pub returns-in-List-clause-opens : goal.returns-in-List-clause-opens
 returns-in-List-clause-opens c = λ d t stands is.
     let the : d ≡ D.List c.in-List.elem c.in-List.at =
     type_is c.args.acc.now c.args.slot.ty.0 c.base.result.0 c.def.result.now (D.List c.in-List.elem c.in-List.at) d c.base.ensures.same c.def.ensures.same c.in-List.is is in
-    subst (λ (k : TypeDef). Opens c.args.acc.now c.args.room k t c.open_list.result) (sym the) (c.open_list.ensures.opens c.args.acc.now c.in-List.at t stands)
+    subst (λ (k : TypeDef). OpensPiece c.args.acc.now c.args.room k t c.open_list.result) (sym the) (c.open_list.ensures.opens c.args.acc.now c.in-List.at t stands)
 
 pub returns-in-Map-form-clause-opens : goal.returns-in-Map-form-clause-opens
 returns-in-Map-form-clause-opens c = λ d t stands is.
     let own : MapForm → TypeDef = λ f. D.Map c.in-Map.key c.in-Map.key_at c.in-Map.value c.in-Map.at f in
     let the : d ≡ own MF.Map =
     type_is c.args.acc.now c.args.slot.ty.0 c.base.result.0 c.def.result.now (own c.in-Map.form) d c.base.ensures.same c.def.ensures.same c.in-Map.is is ∙ ap own c.in-Map-form.is in
-    subst (λ (k : TypeDef). Opens c.args.acc.now c.args.room k t c.open_map.result) (sym the)
+    subst (λ (k : TypeDef). OpensPiece c.args.acc.now c.args.room k t c.open_map.result) (sym the)
     (c.open_map.ensures.opens c.in-Map.key_at c.in-Map.at t stands (piece_rises c.args.acc.now c.args.piece.now t stands))
 
 pub returns-in-Any-clause-ready : goal.returns-in-Any-clause-ready
@@ -68,7 +68,7 @@ returns-in-Hamt-clause-opens c = λ d t stands is.
     let own : MapForm → TypeDef = λ f. D.Map c.in-Map.key c.in-Map.key_at c.in-Map.value c.in-Map.at f in
     let the : d ≡ own (MF.Hamt c.in-Hamt.shape) =
     type_is c.args.acc.now c.args.slot.ty.0 c.base.result.0 c.def.result.now (own c.in-Map.form) d c.base.ensures.same c.def.ensures.same c.in-Map.is is ∙ ap own c.in-Hamt.is in
-    subst (λ (k : TypeDef). Opens c.args.acc.now c.args.room k t c.open_hamt.result) (sym the) (c.open_hamt.ensures.opens c.args.acc.now c.in-Map.key_at c.in-Map.at t stands)
+    subst (λ (k : TypeDef). OpensPiece c.args.acc.now c.args.room k t c.open_hamt.result) (sym the) (c.open_hamt.ensures.opens c.args.acc.now c.in-Map.key_at c.in-Map.at t stands)
 
 pub returns-in-Hamt-clause-ready : goal.returns-in-Hamt-clause-ready
 returns-in-Hamt-clause-ready c =
@@ -93,7 +93,7 @@ returns-in-StringPairs-clause-opens c = λ d t stands is.
     type_is c.args.acc.now c.args.slot.ty.0 c.base.result.0 c.def.result.now (own c.in-Map.form) d c.base.ensures.same c.def.ensures.same c.in-Map.is is ∙ ap own c.in-StringPairs.is in
     let texts : cut c.in-StringPairs.inner c.in-StringPairs.entry ≡ cut c.as_str.result.now c.as_str-in-StringPairs.result.now =
     ap (λ a. cut a c.in-StringPairs.entry) (sym c.as_str.ensures.same) ∙ ap (cut c.as_str.result.now) (sym c.as_str-in-StringPairs.ensures.same) in
-    subst (λ (k : TypeDef). Opens c.args.acc.now c.args.room k t c.open_stringpairs.result) (sym (the ∙ texts)) (c.open_stringpairs.ensures.opens c.args.acc.now c.in-Map.key_at c.in-Map.at t stands)
+    subst (λ (k : TypeDef). OpensPiece c.args.acc.now c.args.room k t c.open_stringpairs.result) (sym (the ∙ texts)) (c.open_stringpairs.ensures.opens c.args.acc.now c.in-Map.key_at c.in-Map.at t stands)
 
 pub returns-in-StringPairs-clause-ready : goal.returns-in-StringPairs-clause-ready
 returns-in-StringPairs-clause-ready c =
@@ -105,7 +105,7 @@ returns-in-ListPairs-clause-opens c = λ d t stands is.
     let own : MapForm → TypeDef = λ f. D.Map c.in-Map.key c.in-Map.key_at c.in-Map.value c.in-Map.at f in
     let the : d ≡ own MF.ListPairs =
     type_is c.args.acc.now c.args.slot.ty.0 c.base.result.0 c.def.result.now (own c.in-Map.form) d c.base.ensures.same c.def.ensures.same c.in-Map.is is ∙ ap own c.in-ListPairs.is in
-    subst (λ (k : TypeDef). Opens c.args.acc.now c.args.room k t c.open_listpairs.result) (sym the) (c.open_listpairs.ensures.opens c.args.acc.now c.in-Map.key_at c.in-Map.at t stands)
+    subst (λ (k : TypeDef). OpensPiece c.args.acc.now c.args.room k t c.open_listpairs.result) (sym the) (c.open_listpairs.ensures.opens c.args.acc.now c.in-Map.key_at c.in-Map.at t stands)
 
 pub returns-in-ListPairs-clause-ready : goal.returns-in-ListPairs-clause-ready
 returns-in-ListPairs-clause-ready c =

@@ -2,7 +2,7 @@ use Rattle.std.proofs.Common.{ℕ, List, ◌∙◌, length, sym, subst}
 use Rattle.ild_data.specs.declared.hamt_shape.HamtShape.{HamtShape}
 use Rattle.ild_node_slots.specs.Views.{HasSlots}
 use Rattle.ild_hamt.specs.Descending.{IsTrailOf, trail_blocks}
-use Rattle.ild_hamt.specs.Found.{Finds}
+use Rattle.ild_hamt.specs.Found.{FoundInNode}
 use Rattle.ild_hamt.proofs.Found.{finds_bucket, finds_child, finds_empty}
 use Rattle.ild_hamt.proofs.Fulling.{end-read, found-bucket, found-empty, found-child}
 use Rattle.ild_hamt.proofs.Planned.{along-read}
@@ -30,7 +30,7 @@ pub returns-in-Bucket-clause-at_end : goal.returns-in-Bucket-clause-at_end
 returns-in-Bucket-clause-at_end c = λ h k slots last leads.
     let is = along-read c.args.self.now.shape c.args.root c.args.self.now h k slots last c.deref.result.now _ leads c.deref.ensures.value c.end_slot.ensures in
     let depth = length (trail_blocks c.args.self.now) in
-    subst (λ (key : List ℕ). Finds c.args.self.now.shape (h k) depth key last c.find.result) (c.as_str.ensures.same ∙ leads.trail.key)
+    subst (λ (key : List ℕ). FoundInNode c.args.self.now.shape (h k) depth key last c.find.result) (c.as_str.ensures.same ∙ leads.trail.key)
     (finds_bucket c.args.self.now.shape (h k) depth c.as_str.result.now last c.in-Bucket.bucket _ (rw c.in-Bucket.is at is) c.find.ensures)
 
 pub returns-in-Empty-clause-at_end : goal.returns-in-Empty-clause-at_end
