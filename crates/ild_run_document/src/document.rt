@@ -33,11 +33,4 @@ impl<'s> Document<'s> {
             own: OwnBlocks::new(alloc),
         }
     }
-
-    /// The document, of which the root block is that of the value to which the lines have led.
-    pub fn doc(&self) -> &Doc<'s>
-        ensures { result.now ≡ doc_in self.now }
-    {
-        &self.doc
-    }
 }

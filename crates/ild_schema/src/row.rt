@@ -22,7 +22,7 @@ pub struct Row {
 
 impl Origin {
     ghost use Rattle.std.specs.Prelude.{◌≡◌};
-    ghost use Rattle.ild_schema.specs.Names.{is_open, is_declared};
+    ghost use Rattle.ild_schema.specs.Names.{is_open};
 
     /// Whether a text can name the type: it is no inline type.
     pub fn is_open(self) -> bool
@@ -31,16 +31,6 @@ impl Origin {
         match self {
             Origin::Prelude | Origin::Declared => true,
             Origin::Inline => false,
-        }
-    }
-
-    /// Whether the text declares the type.
-    pub fn is_declared(self) -> bool
-        ensures { result ≡ is_declared self }
-    {
-        match self {
-            Origin::Declared => true,
-            Origin::Prelude | Origin::Inline => false,
         }
     }
 }

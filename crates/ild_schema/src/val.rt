@@ -147,14 +147,12 @@ impl Vals {
         }
     }
 
-    /// No element, with room for so many where memory has it.
-    pub fn with_room(alloc: Global, count: usize) -> Vals
-        ensures { result ≡ no_values }
+    /// No element, with room for so many.
+    pub fn with_room(alloc: Global, count: usize) -> Result<Vals, AllocError>
+        ensures { IfOk result (λ made. made ≡ no_values) }
     {
-        match Vec::with_capacity(alloc, count) {
-            Ok(items) => Vals { items },
-            Err(_) => Vals::new(alloc),
-        }
+        let items = Vec::with_capacity(alloc, count)?;
+        Ok(Vals { items })
     }
 
     /// Appends an element.
@@ -213,14 +211,12 @@ impl ValPairs {
         }
     }
 
-    /// No entry, with room for so many where memory has it.
-    pub fn with_room(alloc: Global, count: usize) -> ValPairs
-        ensures { result ≡ no_pairs }
+    /// No entry, with room for so many.
+    pub fn with_room(alloc: Global, count: usize) -> Result<ValPairs, AllocError>
+        ensures { IfOk result (λ made. made ≡ no_pairs) }
     {
-        match Vec::with_capacity(alloc, count) {
-            Ok(pairs) => ValPairs { pairs },
-            Err(_) => ValPairs::new(alloc),
-        }
+        let pairs = Vec::with_capacity(alloc, count)?;
+        Ok(ValPairs { pairs })
     }
 
     /// Appends an entry.
@@ -338,12 +334,5 @@ impl ValPart {
         ensures { value_of result.now ≡ self.now }
     {
         &self.val
-    }
-
-    /// The value, without a copy.
-    pub fn into_val(self) -> Val
-        ensures { value_of result ≡ self }
-    {
-        Box::into_inner(self.val)
     }
 }

@@ -78,7 +78,7 @@ fn elements(
     ensures ok { IfOk result (λ vals. Means acc.now slot (D.list trees) (V.list vals)) }
     ensures err { IfErr result (IsRefused acc.now slot (D.list trees)) }
 {
-    let mut vals = Vals::with_room(alloc, trees.len());
+    let mut vals = Vals::with_room(alloc, trees.len())?;
     for tree in trees.into_vec() {
         let val = tree_value(alloc, acc, elem, tree)?;
         vals.push(val)?;
@@ -137,7 +137,7 @@ fn pairs(
     ensures ok { IfOk result (λ pairs. Means acc.now slot (D.map entries) (V.map pairs)) }
     ensures err { IfErr result (IsRefused acc.now slot (D.map entries)) }
 {
-    let mut vals = ValPairs::with_room(alloc, entries.len());
+    let mut vals = ValPairs::with_room(alloc, entries.len())?;
     for (name, tree) in entries.into_vec() {
         let is_key = is_text(alloc, acc, key, name.as_str())?;
         if !is_key {
