@@ -1,3 +1,4 @@
 pub mod Carrying
 pub mod Flatly
 pub mod Settling
+pub mod Shortly

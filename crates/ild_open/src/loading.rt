@@ -1,8 +1,9 @@
 //! Loading the value at a view.
-ghost use Rattle.std.specs.Prelude.{◌≡◌, ◌<◌, length, false, true};
+ghost use Rattle.std.specs.Prelude.{◌≡◌, ◌<◌, ◌≤◌, length, false, true};
 ghost use Rattle.ild_cbor.specs.Nodes.{HasData};
 ghost use Rattle.ild_cbor.specs.declared.piece.Piece.TheVariants as P;
 ghost use Rattle.ild_data.specs.Data.{Data};
+ghost use Rattle.ild_data.specs.Limits.{longest_block};
 ghost use Rattle.ild_data.specs.Seen.{data_of};
 ghost use Rattle.ild_data.specs.Spell.{id_of, spell};
 ghost use Rattle.ild_data.specs.Tree.{IsTree};
@@ -68,7 +69,7 @@ fn load_flat<K: Store, H: KeyHash>(
     }
 }
 
-// The value of data that bytes spell.
+// The value of data that bytes spell, which are a block by themselves.
 fn load_bytes<K: Store, H: KeyHash>(
     alloc: Global,
     acc: &Accepted,
@@ -81,17 +82,18 @@ fn load_bytes<K: Store, H: KeyHash>(
     requires within { slot.ty.0 < length acc.now }
     requires front { ∥ HasFront acc.now 96 (slot, data_of tree.now) ∥₁ }
     requires flat { IsFlat (data_of tree.now) }
+    requires short { length (spell (data_of tree.now)) ≤ longest_block }
     requires is_tree { IsTree (data_of tree.now) }
     requires spelled { bytes.now ≡ spell (data_of tree.now) }
     ensures { LoadsAlone H.hash_of acc.now slot (data_of tree.now) (K.moment store.old) result (K.moment store.new) }
 {
     match check(bytes) {
         Ok(node) => load_flat(alloc, acc, slot, &Piece::Node(node), keys, store),
-        Err(_) => Err(OpenFault::Memory),
+        Err(_) => unreachable!(),
     }
 }
 
-// The value of a scalar that a block leaves out: it is spelled.
+// The value of a scalar that a block leaves out: it is spelled. An accepted schema has no such scalar that is too long for a block.
 fn load_alone<K: Store, H: KeyHash>(
     alloc: Global,
     acc: &Accepted,
@@ -103,6 +105,7 @@ fn load_alone<K: Store, H: KeyHash>(
     requires within { slot.ty.0 < length acc.now }
     requires front { ∥ HasFront acc.now 96 (slot, data_of tree.now) ∥₁ }
     requires flat { IsFlat (data_of tree.now) }
+    requires short { length (spell (data_of tree.now)) ≤ longest_block }
     ensures { LoadsAlone H.hash_of acc.now slot (data_of tree.now) (K.moment store.old) result (K.moment store.new) }
 {
     // It does no work: its clause says that the data are a tree.

@@ -1,3 +1,4 @@
 mod Empties
 mod Putting
 mod Rooted
+mod Unrefused

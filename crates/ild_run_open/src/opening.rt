@@ -10,7 +10,7 @@ use ild_data::{BlockId, KeyHash};
 use ild_edges::Store;
 use ild_open::{OpenFault, open_root};
 use ild_schema::{Accepted, TypeNo};
-use ild_view_doc::Doc;
+use ild_view_doc::{Doc, DocErr};
 use std::alloc::Global;
 
 fn open_fault(fault: OpenFault) -> StartFault
@@ -41,8 +41,7 @@ fn open_held<'s, K: Store, H: KeyHash>(
     }
 }
 
-/// Puts the block of the empty value, and opens its document. What was built of the type is a root block of it, so that there memory
-/// alone can be wanting.
+/// Puts the block of the empty value, and opens its document: what was built of the type is a root block of it.
 fn open_empty<'s, K: Store, H: KeyHash>(
     alloc: Global,
     acc: &'s Accepted,
@@ -53,13 +52,16 @@ fn open_empty<'s, K: Store, H: KeyHash>(
     requires { ty.0 < length acc.now }
     ensures { Starts H.hash_of acc.now ty start.Empty (K.moment store.old) result (K.moment store.new) }
 {
+    acc.recall();
     let block = match put_empty(alloc, acc, ty, keys, store) {
         Ok(block) => block,
         Err(fault) => return Err(fault),
     };
     match Doc::of(alloc, acc, ty, block) {
         Ok(doc) => Ok(doc),
-        Err(_) => Err(StartFault::Memory),
+        Err(DocErr::Cbor(_)) => unreachable!(),
+        Err(DocErr::Shape(_)) => unreachable!(),
+        Err(DocErr::Memory) => Err(StartFault::Memory),
     }
 }
 

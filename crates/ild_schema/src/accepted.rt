@@ -49,6 +49,8 @@ impl Accepted {
         ensures legible { IsLegible self.now }
     {
         accepted_are_legible();
+        // It says that the rows are a table.
+        self.schema.types();
     }
 
     /// How many types the table has.

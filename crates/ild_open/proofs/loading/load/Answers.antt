@@ -1,4 +1,5 @@
 use Rattle.std.proofs.Common.{List, sym, subst}
+use Rattle.ild_open.proofs.Shortly.{implicit_short}
 use Rattle.ild_data.specs.Seen.{data_of}
 use Rattle.ild_data.specs.Spell.{id_of}
 use Rattle.ild_schema.specs.declared.number.Slot.{Slot}
@@ -45,3 +46,8 @@ pub load_alone-requires-clause-flat : goal.load_alone-requires-clause-flat
 load_alone-requires-clause-flat g c =
     let d = data_of c.in_ok-tree-in-None.tree in
     scalar_flat c.args.view.now d (sym c.in-None.ensures) (scalar_is c.args.view.now d (sym c.in-None.ensures) c.args.view.now.stands c.in_ok-tree-in-None.ensures)
+
+pub load_alone-requires-clause-short : goal.load_alone-requires-clause-short
+load_alone-requires-clause-short g c =
+    let d = data_of c.in_ok-tree-in-None.tree in
+    implicit_short c.args.view.now d (sym c.in-None.ensures) (scalar_is c.args.view.now d (sym c.in-None.ensures) c.args.view.now.stands c.in_ok-tree-in-None.ensures) c.args.view.now.placed
