@@ -2,9 +2,11 @@
 //! Schemas; IPLD HashMap).
 #![tactic(auto)]
 
+mod block_at;
 mod loading;
 mod opening;
 
+pub use block_at::BlockAt;
 pub use ild_open_read::OpenFault;
 pub use loading::load;
 pub use opening::{open_root, open_value};

@@ -14,10 +14,12 @@ ghost use Rattle.ild_open_parts.specs.Checked.{IsChecked};
 ghost use Rattle.ild_open_read.specs.Parts.{ReadsSlot};
 ghost use Rattle.ild_typed.proofs.Flat.{IsFlat};
 ghost use Rattle.ild_open.specs.inside.Item.{LoadsAlone, LoadsFlat, LoadsPiece};
+ghost use Rattle.ild_open.specs.Blocks.{bytes_in};
 ghost use Rattle.ild_open.specs.Loaded.{IsShallow, Loads};
 
+use crate::block_at::BlockAt;
 use ild_cbor::{Kind, Node, Piece, check};
-use ild_data::{BlockId, KeyHash, Tree, block_id};
+use ild_data::{BlockId, KeyHash, Tree};
 use ild_edges::Store;
 use ild_emit::Emit;
 use ild_open_read::{OpenFault, read};
@@ -127,26 +129,25 @@ fn is_nest(node: &Node<'_>) -> bool
     }
 }
 
-// The value for which an item stands. The id of its block, which is handed in, is worked out where the item is a list or a map, since
+// The value for which an item stands. The id of its block, which is handed in, is asked for where the item is a list or a map, since
 // only then a block may be at fault.
 fn load_node<K: Store, H: KeyHash>(
     alloc: Global,
     acc: &Accepted,
     slot: Slot,
     node: &Node<'_>,
-    block: &[u8],
+    at: BlockAt<'_>,
     keys: &H,
     store: &mut K,
 ) -> Result<Val, OpenFault>
     requires within { slot.ty.0 < length acc.now }
     requires inlined { IsInlined acc.now slot (P.Node node.now) }
     requires tree { ∥ IsChecked acc.now 96 slot (P.Node node.now) ∥₁ }
-    ensures { LoadsPiece H.hash_of acc.now slot (id_of block.now) (P.Node node.now) (K.moment store.old) result (K.moment store.new) }
+    ensures { LoadsPiece H.hash_of acc.now slot (id_of (bytes_in at.entry)) (P.Node node.now) (K.moment store.old) result (K.moment store.new) }
 {
     let piece = Piece::Node(*node);
     if is_nest(node) {
-        let at = block_id(block);
-        return load_in(alloc, acc, slot, &piece, at, keys, store);
+        return load_in(alloc, acc, slot, &piece, at.id(), keys, store);
     }
     load_flat(alloc, acc, slot, &piece, keys, store)
 }
@@ -157,7 +158,7 @@ fn load_piece<K: Store, H: KeyHash>(
     acc: &Accepted,
     slot: Slot,
     piece: &Piece<'_>,
-    block: &[u8],
+    at: BlockAt<'_>,
     keys: &H,
     store: &mut K,
 ) -> Result<Val, OpenFault>
@@ -165,14 +166,11 @@ fn load_piece<K: Store, H: KeyHash>(
     requires numbered { IsNumbered acc.now piece.now }
     requires inlined { IsInlined acc.now slot piece.now }
     requires tree { ∥ IsChecked acc.now 96 slot piece.now ∥₁ }
-    ensures { LoadsPiece H.hash_of acc.now slot (id_of block.now) piece.now (K.moment store.old) result (K.moment store.new) }
+    ensures { LoadsPiece H.hash_of acc.now slot (id_of (bytes_in at.entry)) piece.now (K.moment store.old) result (K.moment store.new) }
 {
     match piece {
-        Piece::Node(node) => load_node(alloc, acc, slot, node, block, keys, store),
-        Piece::Inline(_, _) => {
-            let at = block_id(block);
-            load_in(alloc, acc, slot, piece, at, keys, store)
-        }
+        Piece::Node(node) => load_node(alloc, acc, slot, node, at, keys, store),
+        Piece::Inline(_, _) => { load_in(alloc, acc, slot, piece, at.id(), keys, store) }
         Piece::Text(_) => load_flat(alloc, acc, slot, piece, keys, store),
         Piece::Bytes(_) => load_flat(alloc, acc, slot, piece, keys, store),
     }
@@ -184,23 +182,15 @@ fn load_piece<K: Store, H: KeyHash>(
 pub fn load<K: Store, H: KeyHash>(
     alloc: Global,
     view: &View<'_>,
-    block: &[u8],
+    at: BlockAt<'_>,
     keys: &H,
     store: &mut K,
 ) -> Result<Val, OpenFault>
     requires shallow { ∥ IsShallow view.now ∥₁ }
-    ensures { Loads H.hash_of view.now (id_of block.now) (K.moment store.old) result (K.moment store.new) }
+    ensures { Loads H.hash_of view.now (id_of (bytes_in at.entry)) (K.moment store.old) result (K.moment store.new) }
 {
     match view.piece() {
-        Some(piece) => load_piece(
-            alloc,
-            view.schema(),
-            view.slot(),
-            &piece,
-            block,
-            keys,
-            store,
-        ),
+        Some(piece) => load_piece(alloc, view.schema(), view.slot(), &piece, at, keys, store),
         None => {
             let tree = view.rep(alloc)?;
             load_alone(alloc, view.schema(), view.slot(), &tree, keys, store)

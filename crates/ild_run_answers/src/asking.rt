@@ -9,6 +9,7 @@ ghost use Rattle.ild_script_meaning.specs.Ask.{asked_by, to_edit, to_tell};
 
 use ild_data::{Path, Sha256Keys};
 use ild_edges::Store;
+use ild_open::BlockAt;
 use ild_open_held::standing_are_held;
 use ild_run_edit::{EditVerb, edit};
 use ild_run_follow::Tell;
@@ -29,7 +30,8 @@ fn tell<K: Store>(alloc: Global, doc: &Doc<'_>, path: &Path, what: Tell, store: 
     reads_are_replies();
     doc.schema().recall();
     let view = doc.view();
-    read(alloc, &view, path, what, &Sha256Keys, store)
+    let at = BlockAt::named(doc.block(), doc.root());
+    read(alloc, &view, at, path, what, &Sha256Keys, store)
 }
 
 /// An edit, and the new root.

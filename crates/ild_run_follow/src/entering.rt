@@ -5,6 +5,7 @@ ghost use Rattle.ild_data.specs.Data.{Data};
 ghost use Rattle.ild_data.specs.Trie.{TrieSlot};
 ghost use Rattle.ild_schema.specs.Slots.{form_of};
 ghost use Rattle.ild_node_slots.specs.Views.{HasSlots};
+ghost use Rattle.ild_open.specs.Blocks.{bytes_in};
 ghost use Rattle.ild_data.specs.declared.hamt_shape.HamtShape.{HamtShape};
 ghost use Rattle.ild_schema.specs.Value.{hamt as root_of};
 ghost use Rattle.ild_view.specs.View.{IsView, slot_of, table_of};
@@ -12,10 +13,11 @@ ghost use Rattle.ild_run_follow.specs.inside.Enters.{ChecksEntry, EntersTrie, Re
 
 use crate::fault::{ReadFault, of_hamt};
 use ild_cbor::{BlockWhy, Node};
-use ild_data::{KeyHash, block_id};
+use ild_data::KeyHash;
 use ild_edges::Store;
 use ild_hamt::{Trail, descend};
 use ild_node_slots::NodeView;
+use ild_open::BlockAt;
 use ild_path_room::value_slot;
 use ild_typed::refused_have_no_front;
 use ild_view::{View, ViewErr};
@@ -47,11 +49,11 @@ pub(crate) fn entry_view<'b>(
     alloc: Global,
     hamt: &View<'b>,
     node: Node<'b>,
-    block: &[u8],
+    at: BlockAt<'_>,
 ) -> Result<View<'b>, ReadFault>
     requires { ∥ ((t : Data) × IsView hamt.now (root_of t)) ∥₁ }
     ensures checks { (d : Data) → HasData node.entry d → ChecksEntry (table_of hamt.now) (form_of (table_of hamt.now) (slot_of hamt.now)) node.entry d result }
-    ensures refused { (d : Data) → HasData node.entry d → RefusesEntry (table_of hamt.now) (form_of (table_of hamt.now) (slot_of hamt.now)) block.now d result }
+    ensures refused { (d : Data) → HasData node.entry d → RefusesEntry (table_of hamt.now) (form_of (table_of hamt.now) (slot_of hamt.now)) (bytes_in at.entry) d result }
 {
     let acc = hamt.schema();
     // They do no work: their clauses say what acceptance says of the table, and that what is refused has no front.
@@ -63,7 +65,7 @@ pub(crate) fn entry_view<'b>(
     match View::check(alloc, acc, slot, node, ROOM) {
         Ok(view) => Ok(view),
         Err(ViewErr::Shape { ty: _, why, at: _ }) => Err(ReadFault::Block {
-            id: block_id(block),
+            id: at.id(),
             why: BlockWhy::Shape(why),
         }),
         Err(ViewErr::Memory) => Err(ReadFault::Memory),

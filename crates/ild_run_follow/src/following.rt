@@ -3,24 +3,27 @@ ghost use Rattle.std.specs.Prelude.{◌<◌, ◌≤◌, ℕ, drop, length};
 ghost use Rattle.ild_data.specs.Data.{Data};
 ghost use Rattle.ild_data.specs.Limits.{deepest};
 ghost use Rattle.ild_data.specs.Spell.{id_of};
+ghost use Rattle.ild_open.specs.Blocks.{bytes_in};
 ghost use Rattle.ild_open.specs.Loaded.{IsShallow};
 ghost use Rattle.ild_open_parts.specs.Sites.{Site};
-ghost use Rattle.ild_path_found.specs.Sites.{IsSiteOf, block_in};
+ghost use Rattle.ild_path_found.specs.Sites.{IsSiteOf};
 ghost use Rattle.ild_run_follow.specs.Refuses.{RefusesAlong, RefusesIn};
 ghost use Rattle.ild_run_follow.specs.Tells.{TellsFrom, TellsIn};
 ghost use Rattle.ild_schema.specs.Value.{Value, hamt as root_of};
 ghost use Rattle.ild_schema.specs.declared.number.Slot.{Slot};
 ghost use Rattle.ild_typed.specs.Fits.{Front};
-ghost use Rattle.ild_view.specs.View.{IsView, piece_of, slot_of, table_of};
+ghost use Rattle.ild_view.specs.View.{IsView, slot_of, table_of};
 
 use crate::absent::absent;
+use crate::ending::end_at;
 use crate::entering::{entry_view, trail_of};
 use crate::fault::ReadFault;
 use crate::kind::Tell;
 use crate::telling::tell_here;
 use ild_data::{KeyHash, Path, Tree};
 use ild_edges::Store;
-use ild_path_found::{block_of, end_of, parts_stand_in_data};
+use ild_open::BlockAt;
+use ild_path_found::parts_stand_in_data;
 use ild_view::{Step, View};
 use std::alloc::Global;
 
@@ -29,7 +32,7 @@ use std::alloc::Global;
 fn tell_from<'b, K: Store, H: KeyHash>(
     alloc: Global,
     view: View<'b>,
-    block: &[u8],
+    at: BlockAt<'_>,
     path: &Path,
     from: usize,
     tell: Tell,
@@ -39,14 +42,14 @@ fn tell_from<'b, K: Store, H: KeyHash>(
     requires shallow { ∥ IsShallow view ∥₁ }
     ensures tells { TellsFrom H.hash_of view.entry (drop from path.now) tell (K.moment store.old) result (K.moment store.new) }
     ensures refused { (f : Value) (t : Data) → IsView view.entry f → Front (table_of view.entry) deepest (slot_of view.entry) f t
-        → RefusesAlong H.hash_of (table_of view.entry) (id_of block.now) (slot_of view.entry) t (K.moment store.old) result (K.moment store.new) }
+        → RefusesAlong H.hash_of (table_of view.entry) (id_of (bytes_in at.entry)) (slot_of view.entry) t (K.moment store.old) result (K.moment store.new) }
 {
     // They do no work: their clauses say what acceptance says of the table, and that the parts of a front stand in its data.
     view.schema().recall();
     parts_stand_in_data();
     match view.at(path, from) {
-        Ok(Step::Here(part)) => tell_here(alloc, &part, block, tell, keys, store),
-        Ok(Step::Enter(hamt, k)) => tell_in(alloc, hamt, block, path, k, tell, keys, store),
+        Ok(Step::Here(part)) => tell_here(alloc, &part, at, tell, keys, store),
+        Ok(Step::Enter(hamt, k)) => tell_in(alloc, hamt, at, path, k, tell, keys, store),
         Err(_) => absent(tell),
     }
 }
@@ -56,7 +59,7 @@ fn tell_from<'b, K: Store, H: KeyHash>(
 fn tell_in<'b, K: Store, H: KeyHash>(
     alloc: Global,
     hamt: View<'b>,
-    block: &[u8],
+    at: BlockAt<'_>,
     path: &Path,
     k: usize,
     tell: Tell,
@@ -66,7 +69,7 @@ fn tell_in<'b, K: Store, H: KeyHash>(
     requires root { ∥ ((t : Data) × IsView hamt (root_of t)) ∥₁ }
     requires within { k < length path.now }
     ensures tells { TellsIn H.hash_of hamt.entry (drop k path.now) tell (K.moment store.old) result (K.moment store.new) }
-    ensures refused { (slot : Slot) (room : ℕ) (z : Site) → IsSiteOf (table_of hamt.entry) slot room hamt.entry block.now z
+    ensures refused { (slot : Slot) (room : ℕ) (z : Site) → IsSiteOf (table_of hamt.entry) slot room hamt.entry (bytes_in at.entry) z
         → RefusesIn H.hash_of (table_of hamt.entry) z (K.moment store.old) result (K.moment store.new) }
 {
     // They do no work, as above: the count says that a number behind a segment's is one.
@@ -82,20 +85,22 @@ fn tell_in<'b, K: Store, H: KeyHash>(
     let Some(node) = trail.found(root) else {
         return absent(tell);
     };
-    let end = end_of(&trail, block);
+    let end = end_at(&trail, at);
     match entry_view(alloc, &hamt, node, end) {
         Ok(part) => tell_from(alloc, part, end, path, k + 1, tell, keys, store),
         Err(fault) => Err(fault),
     }
 }
 
-/// What is told of the part of a view to which a path leads, through the HAMTs on it. `Path` comes where it leads nowhere, or to what
-/// has no such parts; whether a part is there is told of each path. All by gets alone: those of the nodes on the keys' ways, and where
-/// a part is shown, counted or listed those of its own nodes. No block is refused on a store that holds the value; on any other only one
-/// that is broken, of those on the way of the path, or of those that hang on the part.
+/// What is told of the part of a view to which a path leads, through the HAMTs on it. The view's data stand in the block that is handed
+/// in. `Path` comes where the path leads nowhere, or to what has no such parts; whether a part is there is told of each path. All by gets
+/// alone: those of the nodes on the keys' ways, and where a part is shown, counted or listed those of its own nodes. No block is refused
+/// on a store that holds the value; on any other only one that is broken, of those on the way of the path, or of those that hang on the
+/// part.
 pub fn tell<K: Store, H: KeyHash>(
     alloc: Global,
     view: &View<'_>,
+    at: BlockAt<'_>,
     path: &Path,
     tell: Tell,
     keys: &H,
@@ -104,7 +109,7 @@ pub fn tell<K: Store, H: KeyHash>(
     requires shallow { ∥ IsShallow view.now ∥₁ }
     ensures tells { TellsFrom H.hash_of view.now path.now tell (K.moment store.old) result (K.moment store.new) }
     ensures refused { (f : Value) (t : Data) → IsView view.now f → Front (table_of view.now) deepest (slot_of view.now) f t
-        → RefusesAlong H.hash_of (table_of view.now) (id_of (block_in (piece_of view.now))) (slot_of view.now) t (K.moment store.old) result (K.moment store.new) }
+        → RefusesAlong H.hash_of (table_of view.now) (id_of (bytes_in at.entry)) (slot_of view.now) t (K.moment store.old) result (K.moment store.new) }
 {
-    tell_from(alloc, *view, block_of(view), path, 0, tell, keys, store)
+    tell_from(alloc, *view, at, path, 0, tell, keys, store)
 }

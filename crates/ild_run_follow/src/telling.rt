@@ -3,6 +3,7 @@ ghost use Rattle.std.specs.Prelude.{◌≡◌, ◌<◌, IfOk, length, true};
 ghost use Rattle.ild_data.specs.Data.{Data};
 ghost use Rattle.ild_data.specs.Seen.{data_of};
 ghost use Rattle.ild_data.specs.Spell.{id_of};
+ghost use Rattle.ild_open.specs.Blocks.{bytes_in};
 ghost use Rattle.ild_open.specs.Loaded.{IsShallow, IsShown};
 ghost use Rattle.ild_run_follow.specs.Refuses.{RefusesPart};
 ghost use Rattle.ild_run_follow.specs.Tells.{LoadsPart, TellsHere, ToldBy};
@@ -13,7 +14,7 @@ use crate::fault::{ReadFault, of_open};
 use crate::kind::Tell;
 use ild_data::{KeyHash, Tree};
 use ild_edges::Store;
-use ild_open::load;
+use ild_open::{BlockAt, load};
 use ild_schema::{Accepted, Slot, Val};
 use ild_value_parts::{count, parts};
 use ild_value_shown::shown;
@@ -24,16 +25,16 @@ use std::alloc::{AllocError, Global};
 fn loaded<K: Store, H: KeyHash>(
     alloc: Global,
     view: &View<'_>,
-    block: &[u8],
+    at: BlockAt<'_>,
     keys: &H,
     store: &mut K,
 ) -> Result<Val, ReadFault>
     requires shallow { ∥ IsShallow view.now ∥₁ }
     ensures loads { LoadsPart H.hash_of view.now (K.moment store.old) result (K.moment store.new) }
-    ensures refused { (t : Data) → IsShown view.now t → RefusesPart H.hash_of (table_of view.now) (id_of block.now) (slot_of view.now) t (K.moment store.old) result (K.moment store.new) }
+    ensures refused { (t : Data) → IsShown view.now t → RefusesPart H.hash_of (table_of view.now) (id_of (bytes_in at.entry)) (slot_of view.now) t (K.moment store.old) result (K.moment store.new) }
 {
     view.schema().recall();
-    match load(alloc, view, block, keys, store) {
+    match load(alloc, view, at, keys, store) {
         Ok(val) => Ok(val),
         Err(fault) => Err(of_open(&fault)),
     }
@@ -66,7 +67,7 @@ fn told_by(
 fn tell_loaded<K: Store, H: KeyHash>(
     alloc: Global,
     view: &View<'_>,
-    block: &[u8],
+    at: BlockAt<'_>,
     tell: Tell,
     keys: &H,
     store: &mut K,
@@ -74,9 +75,9 @@ fn tell_loaded<K: Store, H: KeyHash>(
     requires loads { is_loaded tell ≡ true }
     requires shallow { ∥ IsShallow view.now ∥₁ }
     ensures tells { TellsHere H.hash_of view.now tell (K.moment store.old) result (K.moment store.new) }
-    ensures refused { (t : Data) → IsShown view.now t → RefusesPart H.hash_of (table_of view.now) (id_of block.now) (slot_of view.now) t (K.moment store.old) result (K.moment store.new) }
+    ensures refused { (t : Data) → IsShown view.now t → RefusesPart H.hash_of (table_of view.now) (id_of (bytes_in at.entry)) (slot_of view.now) t (K.moment store.old) result (K.moment store.new) }
 {
-    let val = loaded(alloc, view, block, keys, store)?;
+    let val = loaded(alloc, view, at, keys, store)?;
     match told_by(alloc, view.schema(), view.slot(), &val, tell)? {
         Some(tree) => Ok(tree),
         None => Err(ReadFault::Path),
@@ -87,21 +88,21 @@ fn tell_loaded<K: Store, H: KeyHash>(
 pub(crate) fn tell_here<K: Store, H: KeyHash>(
     alloc: Global,
     view: &View<'_>,
-    block: &[u8],
+    at: BlockAt<'_>,
     tell: Tell,
     keys: &H,
     store: &mut K,
 ) -> Result<Tree, ReadFault>
     requires shallow { ∥ IsShallow view.now ∥₁ }
     ensures tells { TellsHere H.hash_of view.now tell (K.moment store.old) result (K.moment store.new) }
-    ensures refused { (t : Data) → IsShown view.now t → RefusesPart H.hash_of (table_of view.now) (id_of block.now) (slot_of view.now) t (K.moment store.old) result (K.moment store.new) }
+    ensures refused { (t : Data) → IsShown view.now t → RefusesPart H.hash_of (table_of view.now) (id_of (bytes_in at.entry)) (slot_of view.now) t (K.moment store.old) result (K.moment store.new) }
 {
     view.schema().recall();
     match tell {
         Tell::Presence => Ok(Tree::Bool(true)),
         Tell::Representation => Ok(view.rep(alloc)?),
-        Tell::Shown => tell_loaded(alloc, view, block, Tell::Shown, keys, store),
-        Tell::Count => tell_loaded(alloc, view, block, Tell::Count, keys, store),
-        Tell::Parts => tell_loaded(alloc, view, block, Tell::Parts, keys, store),
+        Tell::Shown => tell_loaded(alloc, view, at, Tell::Shown, keys, store),
+        Tell::Count => tell_loaded(alloc, view, at, Tell::Count, keys, store),
+        Tell::Parts => tell_loaded(alloc, view, at, Tell::Parts, keys, store),
     }
 }

@@ -8,6 +8,7 @@ ghost use Rattle.ild_run_reads.specs.Replies.{RepliesAs, refusal_of};
 use ild_data::{KeyHash, Path, Tree};
 use ild_edges::Store;
 use ild_json::{PrintErr, print};
+use ild_open::BlockAt;
 use ild_run_follow::{ReadFault, Tell, tell};
 use ild_script::{No, Reply};
 use ild_view::View;
@@ -36,10 +37,12 @@ fn refusal(fault: &ReadFault) -> No
     }
 }
 
-/// The reply to a read of the value at a view: the reply that is due on the plain value, or a refusal for a cause that is there.
+/// The reply to a read of the value at a view, whose data stand in the block that is handed in: the reply that is due on the plain value,
+/// or a refusal for a cause that is there.
 pub fn read<K: Store, H: KeyHash>(
     alloc: Global,
     view: &View<'_>,
+    at: BlockAt<'_>,
     path: &Path,
     what: Tell,
     keys: &H,
@@ -48,7 +51,7 @@ pub fn read<K: Store, H: KeyHash>(
     requires shallow { ∥ IsShallow view.now ∥₁ }
     ensures { RepliesAs H.hash_of view.now path.now what (K.moment store.old) result (K.moment store.new) }
 {
-    match tell(alloc, view, path, what, keys, store) {
+    match tell(alloc, view, at, path, what, keys, store) {
         Ok(tree) => reply_of(alloc, &tree),
         Err(fault) => Reply::No(refusal(&fault)),
     }

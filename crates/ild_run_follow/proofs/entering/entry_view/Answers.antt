@@ -2,6 +2,7 @@ use Rattle.std.proofs.Common.{List, Ok, Err, sym, subst}
 use Rattle.std.proofs.Math.Logic.{∥∥₁_elim}
 use Rattle.std.proofs.Props.{props}
 use Rattle.ild_cbor.specs.declared.why.BlockWhy.TheVariants as B
+use Rattle.ild_open.specs.Blocks.{bytes_in}
 use Rattle.ild_schema.specs.Slots.{form_of}
 use Rattle.ild_schema.specs.declared.row.Row.{Row}
 use Rattle.ild_typed.specs.Schema.{IsSchema}
@@ -26,5 +27,5 @@ pub returns-in-Err-Shape-clause-refused : goal.returns-in-Err-Shape-clause-refus
 returns-in-Err-Shape-clause-refused c = λ d stands.
     let rows = c.schema-acc.result.now in
     let form = form_of rows (slot_of c.args.hamt.now) in
-    subst (λ (r : List Row). RefusesEntry r (form_of r (slot_of c.args.hamt.now)) c.args.block.now d (Err (F.Block c.block_id.result (B.Shape c.in-Err-Shape.why)))) c.schema-acc.ensures
-    (refuses_entry rows form c.in-Some.slot c.in-Some.ensures c.args.block.now d c.block_id.result c.in-Err-Shape.why c.in-Err-Shape.field-0-0 c.block_id.ensures (rw c.in-Err-Shape.field-0-is at c.in-Err-Shape.ensures.views d stands))
+    subst (λ (r : List Row). RefusesEntry r (form_of r (slot_of c.args.hamt.now)) (bytes_in c.args.at) d (Err (F.Block c.id.result (B.Shape c.in-Err-Shape.why)))) c.schema-acc.ensures
+    (refuses_entry rows form c.in-Some.slot c.in-Some.ensures (bytes_in c.args.at) d c.id.result c.in-Err-Shape.why c.in-Err-Shape.field-0-0 c.id.ensures (rw c.in-Err-Shape.field-0-is at c.in-Err-Shape.ensures.views d stands))

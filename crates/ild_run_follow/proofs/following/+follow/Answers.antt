@@ -3,6 +3,7 @@ use Rattle.std.proofs.Math.Logic.{∥∥₁_elim, ∥∥₁_map}
 use Rattle.std.proofs.Props.{props}
 use Rattle.std.proofs.lemmas.Result.{err_from_is_err_and}
 use Rattle.ild_data.specs.Spell.{id_of}
+use Rattle.ild_open.specs.Blocks.{bytes_in}
 use Rattle.ild_schema.specs.Slots.{form_of}
 use Rattle.ild_schema.specs.Value.{hamt}
 use Rattle.ild_typed.specs.Schema.{IsSchema}
@@ -111,7 +112,7 @@ tell_from-returns-in-Ok-Here-clause-refused g t c = λ f d seen front.
     let schema = subst IsSchema c.schema.ensures (record { table = c.recall.ensures.table; accepted = c.recall.ensures.accepted }) in
     let left = drop c.args.from c.args.path.now in
     let step = stepped view c.args.from left c.in-Ok-Here.field-0 _ c.in-Ok-Here.field-0-is c.in-Ok-Here.ensures in
-    refuses_here c.parts_stand_in_data.ensures g.H.KeyHash.hash_of (table_of view) schema (id_of c.args.block.now) c.args.from (slot_of view, f) d left front (g.K.Store.moment c.args.store.now) (g.K.Store.moment c.tell_here.new.store)
+    refuses_here c.parts_stand_in_data.ensures g.H.KeyHash.hash_of (table_of view) schema (id_of (bytes_in c.args.at)) c.args.from (slot_of view, f) d left front (g.K.Store.moment c.args.store.now) (g.K.Store.moment c.tell_here.new.store)
     c.tell_here.result c.in-Ok-Here.part (step f seen) c.tell_here.ensures.refused
 
 pub tell_from-returns-in-Ok-Enter-clause-refused : goal.tell_from-returns-in-Ok-Enter-clause-refused
@@ -120,20 +121,20 @@ tell_from-returns-in-Ok-Enter-clause-refused g t c = λ f d seen front.
     let schema = subst IsSchema c.schema.ensures (record { table = c.recall.ensures.table; accepted = c.recall.ensures.accepted }) in
     let left = drop c.args.from c.args.path.now in
     let step = stepped view c.args.from left c.in-Ok-Enter.field-0 _ c.in-Ok-Enter.field-0-is c.in-Ok-Enter.ensures in
-    refuses_entered c.parts_stand_in_data.ensures g.H.KeyHash.hash_of (table_of view) schema (id_of c.args.block.now) c.args.from (slot_of view, f) d left front (g.K.Store.moment c.args.store.now) (g.K.Store.moment c.tell_in.new.store)
-    c.tell_in.result c.in-Ok-Enter.hamt c.in-Ok-Enter.k c.args.block.now refl (step f seen) c.tell_in.ensures.refused
+    refuses_entered c.parts_stand_in_data.ensures g.H.KeyHash.hash_of (table_of view) schema (id_of (bytes_in c.args.at)) c.args.from (slot_of view, f) d left front (g.K.Store.moment c.args.store.now) (g.K.Store.moment c.tell_in.new.store)
+    c.tell_in.result c.in-Ok-Enter.hamt c.in-Ok-Enter.k (bytes_in c.args.at) refl (step f seen) c.tell_in.ensures.refused
 
 pub tell_from-returns-in-Err-clause-refused : goal.tell_from-returns-in-Err-clause-refused
 tell_from-returns-in-Err-clause-refused g t c = λ f d seen front.
     let view = c.args.view in
     let m = g.K.Store.moment c.args.store.now in
-    nothing_along g.H.KeyHash.hash_of (table_of view) (id_of c.args.block.now) (slot_of view) d m m c.args.tell c.absent.result c.absent.ensures
+    nothing_along g.H.KeyHash.hash_of (table_of view) (id_of (bytes_in c.args.at)) (slot_of view) d m m c.args.tell c.absent.result c.absent.ensures
 
 pub tell_in-returns-in_err-trail-clause-refused : goal.tell_in-returns-in_err-trail-clause-refused
 tell_in-returns-in_err-trail-clause-refused g t c =
     let p = err_from_is_err_and c.from_residual.result c.from_residual.ensures.1 in
     rw (p.1, p.2) (λ slot room z x.
-    stops_in g.H.KeyHash.hash_of c.args.hamt slot room c.args.block.now c.as_str.result.now z (g.K.Store.moment c.args.store.now) (g.K.Store.moment c.trail_of.new.store) x c.in-Some.root (c.in-Some.ensures (hamt x.tree) x.stands)
+    stops_in g.H.KeyHash.hash_of c.args.hamt slot room (bytes_in c.args.at) c.as_str.result.now z (g.K.Store.moment c.args.store.now) (g.K.Store.moment c.trail_of.new.store) x c.in-Some.root (c.in-Some.ensures (hamt x.tree) x.stands)
     c.in_err-trail.field-0.0 c.in_err-trail.ensures.walks)
 
 pub tell_in-returns-in_default-found-clause-refused : goal.tell_in-returns-in_default-found-clause-refused
@@ -142,11 +143,11 @@ tell_in-returns-in_default-found-clause-refused g t c = λ slot room z x.
 
 pub tell_in-returns-in-Ok-clause-refused : goal.tell_in-returns-in-Ok-clause-refused
 tell_in-returns-in-Ok-clause-refused g t c = λ slot room z x.
-    goes_on g.H.KeyHash.hash_of c.args.hamt slot room c.args.block.now c.as_str.result.now z (g.K.Store.moment c.args.store.now) (g.K.Store.moment c.trail_of.new.store) x c.in-Some.root (c.in-Some.ensures (hamt x.tree) x.stands)
-    c.in_ok-trail.trail c.in_ok-trail.ensures.walks c.in-Some-found.node c.in-Some-found.ensures.at_end _ c.end_of-end.ensures c.in-Ok.part (g.K.Store.moment c.tell_from.new.store) c.tell_from.result c.in-Ok.ensures.checks
+    goes_on g.H.KeyHash.hash_of c.args.hamt slot room (bytes_in c.args.at) c.as_str.result.now z (g.K.Store.moment c.args.store.now) (g.K.Store.moment c.trail_of.new.store) x c.in-Some.root (c.in-Some.ensures (hamt x.tree) x.stands)
+    c.in_ok-trail.trail c.in_ok-trail.ensures.walks c.in-Some-found.node c.in-Some-found.ensures.at_end _ c.end_at-end.ensures c.in-Ok.part (g.K.Store.moment c.tell_from.new.store) c.tell_from.result c.in-Ok.ensures.checks
     c.tell_from.ensures.refused
 
 pub tell_in-returns-clause-refused : goal.tell_in-returns-clause-refused
 tell_in-returns-clause-refused g t c = λ slot room z x.
-    stops_at g.H.KeyHash.hash_of c.args.hamt slot room c.args.block.now c.as_str.result.now z (g.K.Store.moment c.args.store.now) (g.K.Store.moment c.trail_of.new.store) x c.in-Some.root (c.in-Some.ensures (hamt x.tree) x.stands)
-    c.in_ok-trail.trail c.in_ok-trail.ensures.walks c.in-Some-found.node c.in-Some-found.ensures.at_end _ c.end_of-end.ensures c.in-Err.fault c.in-Err.ensures.refused
+    stops_at g.H.KeyHash.hash_of c.args.hamt slot room (bytes_in c.args.at) c.as_str.result.now z (g.K.Store.moment c.args.store.now) (g.K.Store.moment c.trail_of.new.store) x c.in-Some.root (c.in-Some.ensures (hamt x.tree) x.stands)
+    c.in_ok-trail.trail c.in_ok-trail.ensures.walks c.in-Some-found.node c.in-Some-found.ensures.at_end _ c.end_at-end.ensures c.in-Err.fault c.in-Err.ensures.refused

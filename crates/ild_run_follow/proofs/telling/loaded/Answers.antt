@@ -1,5 +1,6 @@
 use Rattle.std.proofs.Common.{Err, Result, sym, ap, ◌∙◌, subst}
 use Rattle.ild_data.specs.Spell.{id_of}
+use Rattle.ild_open.specs.Blocks.{bytes_in}
 use Rattle.ild_schema.specs.declared.val.Val.{Val}
 use Rattle.ild_typed.specs.Schema.{IsSchema}
 use Rattle.ild_run_follow.specs.Tells.{LoadsPart}
@@ -14,18 +15,18 @@ pub returns-in-Ok-clause-loads : goal.returns-in-Ok-clause-loads
 returns-in-Ok-clause-loads g c =
     let schema = subst IsSchema c.schema.ensures (record { table = c.recall.ensures.table; accepted = c.recall.ensures.accepted }) in
     subst (λ (r : Result Val ReadFault). LoadsPart g.H.KeyHash.hash_of c.args.view.now (g.K.Store.moment c.args.store.now) r (g.K.Store.moment c.load.new.store)) (ap loaded_as c.in-Ok.is)
-    (loads g.H.KeyHash.hash_of c.args.view.now schema (id_of c.args.block.now) (g.K.Store.moment c.args.store.now) (g.K.Store.moment c.load.new.store) c.requires.shallow c.load.result c.load.ensures)
+    (loads g.H.KeyHash.hash_of c.args.view.now schema (id_of (bytes_in c.args.at)) (g.K.Store.moment c.args.store.now) (g.K.Store.moment c.load.new.store) c.requires.shallow c.load.result c.load.ensures)
 
 pub returns-in-Err-clause-loads : goal.returns-in-Err-clause-loads
 returns-in-Err-clause-loads g c =
     let schema = subst IsSchema c.schema.ensures (record { table = c.recall.ensures.table; accepted = c.recall.ensures.accepted }) in
     subst (λ (r : Result Val ReadFault). LoadsPart g.H.KeyHash.hash_of c.args.view.now (g.K.Store.moment c.args.store.now) r (g.K.Store.moment c.load.new.store)) (ap loaded_as c.in-Err.is ∙ ap Err (sym c.of_open.ensures))
-    (loads g.H.KeyHash.hash_of c.args.view.now schema (id_of c.args.block.now) (g.K.Store.moment c.args.store.now) (g.K.Store.moment c.load.new.store) c.requires.shallow c.load.result c.load.ensures)
+    (loads g.H.KeyHash.hash_of c.args.view.now schema (id_of (bytes_in c.args.at)) (g.K.Store.moment c.args.store.now) (g.K.Store.moment c.load.new.store) c.requires.shallow c.load.result c.load.ensures)
 
 pub returns-in-Err-clause-refused : goal.returns-in-Err-clause-refused
 returns-in-Err-clause-refused g c = λ t shown.
     let view = c.args.view.now in
     let m = g.K.Store.moment c.args.store.now in
     let n = g.K.Store.moment c.load.new.store in
-    subst (λ (r : Result Val ReadFault). RefusesPart g.H.KeyHash.hash_of (table_of view) (id_of c.args.block.now) (slot_of view) t m r n) (ap loaded_as c.in-Err.is ∙ ap Err (sym c.of_open.ensures))
-    (load_refuses g.H.KeyHash.hash_of view (id_of c.args.block.now) m n c.load.result c.load.ensures t shown)
+    subst (λ (r : Result Val ReadFault). RefusesPart g.H.KeyHash.hash_of (table_of view) (id_of (bytes_in c.args.at)) (slot_of view) t m r n) (ap loaded_as c.in-Err.is ∙ ap Err (sym c.of_open.ensures))
+    (load_refuses g.H.KeyHash.hash_of view (id_of (bytes_in c.args.at)) m n c.load.result c.load.ensures t shown)

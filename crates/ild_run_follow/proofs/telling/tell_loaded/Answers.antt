@@ -1,6 +1,7 @@
 use Rattle.std.proofs.Common.{List, Ok, Err, refl, subst}
 use Rattle.std.proofs.lemmas.Result.{err_from_is_err_and}
 use Rattle.ild_data.specs.Spell.{id_of}
+use Rattle.ild_open.specs.Blocks.{bytes_in}
 use Rattle.ild_schema.specs.declared.number.Slot.{Slot}
 use Rattle.ild_schema.specs.declared.row.Row.{Row}
 use Rattle.ild_view.specs.View.{slot_of, table_of}
@@ -36,7 +37,7 @@ pub returns-in_err-val-clause-refused : goal.returns-in_err-val-clause-refused
 returns-in_err-val-clause-refused g c =
     let p = err_from_is_err_and c.from_residual.result c.from_residual.ensures.1 in
     rw (p.1, p.2) (λ t shown.
-    part_fails g.H.KeyHash.hash_of (table_of c.args.view.now) (id_of c.args.block.now) (slot_of c.args.view.now) t (g.K.Store.moment c.args.store.now) (g.K.Store.moment c.loaded.new.store) c.in_err-val.field-0.0 (c.in_err-val.ensures.refused t shown))
+    part_fails g.H.KeyHash.hash_of (table_of c.args.view.now) (id_of (bytes_in c.args.at)) (slot_of c.args.view.now) t (g.K.Store.moment c.args.store.now) (g.K.Store.moment c.loaded.new.store) c.in_err-val.field-0.0 (c.in_err-val.ensures.refused t shown))
 
 pub returns-in_err-tree-clause-refused : goal.returns-in_err-tree-clause-refused
 returns-in_err-tree-clause-refused g c = let p = err_from_is_err_and c.from_residual-in_err-tree.result c.from_residual-in_err-tree.ensures.1 in rw (p.1, p.2) (λ t shown. tt)
