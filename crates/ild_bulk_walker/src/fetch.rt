@@ -24,7 +24,7 @@ pub(crate) fn root_steps(alloc: Global, root: NodeView<'_>) -> Result<Vec<Step>,
     let held = Rc::new(alloc, node.into_octets())?;
     match steps_in(alloc, root.shape(), &held, known_root(held.as_slice()))? {
         Some(steps) => Ok(steps),
-        None => Err(AllocError),
+        None => unreachable!(),
     }
 }
 

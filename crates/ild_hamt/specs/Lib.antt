@@ -2,9 +2,9 @@ pub mod Fetching
 pub mod Ends
 pub mod Descending
 pub mod Setting
+pub mod Edits
 pub mod Rewriting
 pub mod Removing
-pub mod Edits
 pub mod Found
 pub mod Given
 pub mod inside

@@ -5,6 +5,7 @@ ghost use Rattle.ild_data.specs.ByteOrder.{bytewise, without};
 ghost use Rattle.ild_data.specs.Trie.{TrieSlot, bucket_entries};
 ghost use Rattle.ild_data.specs.TrieShape.{trie_levels, index};
 ghost use Rattle.ild_node_slots.specs.Views.{HasSlots};
+ghost use Rattle.ild_hamt_climb.specs.Known.{SomeSlot};
 ghost use Rattle.ild_hamt_climb.specs.NodeBytes.{IsNodeBytes};
 ghost use Rattle.ild_hamt_climb.specs.Seen.{IsReadOf};
 ghost use Rattle.ild_hamt_climb.specs.Way.{slot_for};
@@ -22,7 +23,8 @@ pub(crate) fn slot_at<'b>(
     depth: u32,
 ) -> NodeSlot<'b>
     requires { depth < trie_levels shape }
-    ensures { (slots : List TrieSlot) → HasSlots shape view.entry slots → IsReadOf result (slot_for shape hash.now depth slots) }
+    ensures known { ∥ SomeSlot result ∥₁ }
+    ensures shows { (slots : List TrieSlot) → HasSlots shape view.entry slots → IsReadOf result (slot_for shape hash.now depth slots) }
 {
     view.slot(index_of(hash, depth, shape))
 }
@@ -36,7 +38,8 @@ pub(crate) fn end_slot<'b>(
     depth: u32,
 ) -> NodeSlot<'b>
     requires { All (IsNodeBytes shape) blocks.now }
-    ensures { (slots last : List TrieSlot) → HasSlots shape root.entry slots → EndsAt shape slots blocks.now last → depth ≡ length blocks.now
+    ensures known { ∥ SomeSlot result ∥₁ }
+    ensures shows { (slots last : List TrieSlot) → HasSlots shape root.entry slots → EndsAt shape slots blocks.now last → depth ≡ length blocks.now
         → depth < trie_levels shape → IsReadOf result (slot_for shape hash.now depth last) }
 {
     if !has_level(shape, depth as usize) {
@@ -46,10 +49,8 @@ pub(crate) fn end_slot<'b>(
     if count == 0 {
         return slot_at(shape, root, hash, depth);
     }
-    match view_in(shape, &blocks[count - 1]) {
-        Some(view) => slot_at(shape, view, hash, depth),
-        None => NodeSlot::Empty,
-    }
+    let view = view_in(shape, &blocks[count - 1]);
+    slot_at(shape, view, hash, depth)
 }
 
 // Whether two hashes have the same index at a depth.

@@ -47,10 +47,8 @@ fn child_in(shape: HamtShape, block: &Octets, hash: &[u8; 32], depth: u32) -> Op
     requires known { IsNodeBytes shape block.now }
     ensures { (slots : List TrieSlot) → IsNodeOf shape block.now slots → option_map (λ id. id.0) result ≡ child_id (slot_for shape hash.now depth slots) }
 {
-    match view_in(shape, block) {
-        Some(view) => child_at(shape, view, hash, depth),
-        None => None,
-    }
+    let view = view_in(shape, block);
+    child_at(shape, view, hash, depth)
 }
 
 /// The node of this shape with an id, which stands at a depth, by one get of the store; or why it isn't to be had.

@@ -3,7 +3,7 @@ ghost use Rattle.std.specs.Prelude.{All};
 ghost use Rattle.ild_hamt_climb.specs.NodeBytes.{IsNodeBytes};
 
 use crate::ending::end_slot;
-use crate::rewriting::{end_again, rewrite, slot_of};
+use crate::rewriting::{rewrite, slot_of};
 use ild_cbor::Node;
 use ild_data::{HamtShape, KeyHash, Octets, Txt};
 use ild_edges::Store;
@@ -26,13 +26,12 @@ pub struct Trail {
 }
 
 impl Trail {
-    ghost use Rattle.std.specs.Prelude.{◌≡◌, ◌+◌, ℕ, List, length, not, is_some, true, IfOk};
+    ghost use Rattle.std.specs.Prelude.{◌≡◌, ◌+◌, ℕ, List, length, not, true, IfOk};
     ghost use Rattle.std.specs.FinMap.{find, put};
     ghost use Rattle.ild_data.specs.Data.{Data};
     ghost use Rattle.ild_data.specs.ByteOrder.{bytewise, without};
-    ghost use Rattle.ild_data.specs.Trie.{TrieSlot, node_of};
+    ghost use Rattle.ild_data.specs.Trie.{TrieSlot};
     ghost use Rattle.ild_data.specs.declared.hamt_shape.HamtShape.{HamtShape};
-    ghost use Rattle.ild_data.specs.TrieShape.{trie_levels};
     ghost use Rattle.ild_hamt_trie.specs.Way.{along};
     ghost use Rattle.ild_cbor.specs.Nodes.{HasData};
     ghost use Rattle.ild_node.specs.Rows.{NestsIn, deepest_value};
@@ -45,7 +44,7 @@ impl Trail {
     ghost use Rattle.ild_edges.specs.Told.{BothTold};
     ghost use Rattle.ild_hamt.specs.Rewriting.{HoldsAfter, IsTrailFrom};
     ghost use Rattle.ild_hamt_climb.specs.Seen.{ValueIs};
-    ghost use Rattle.ild_hamt.specs.Setting.{Sets};
+    ghost use Rattle.ild_hamt.specs.Setting.{Sets, has_trie};
 
     /// The blocks that were read, from the child of the root down.
     pub fn blocks(&self) -> &[Octets]
@@ -71,7 +70,7 @@ impl Trail {
     /// Whether the key is absent, and the entries with it have no HAMT: too many keys agree with it in all bits of their hashes.
     pub fn exhausted(&self) -> bool
         ensures trie { (h : List ℕ → List ℕ) (p : HamtShape) (k : List ℕ) (slots : List TrieSlot) (es : List (List ℕ × Data)) (v : Data) → IsTrailOf h p k slots es self.now
-            → result ≡ not (is_some (node_of h p (trie_levels p) 0 (put bytewise k v es))) }
+            → result ≡ not (has_trie h p (put bytewise k v es)) }
         // Whatever trie the nodes on the way are of: the bucket in which it ends has no place for the key.
         ensures at_end { (h : List ℕ → List ℕ) (p : HamtShape) (k : List ℕ) (bs : List (List ℕ)) (last : List TrieSlot) → IsTrail h p k bs last self.now → result ≡ is_full_at_end h p k bs last }
     {
@@ -82,10 +81,10 @@ impl Trail {
     fn others(&self, alloc: Global, root: NodeView<'_>) -> Result<Rows, AllocError>
         ensures at_end { (h : List ℕ → List ℕ) (k : List ℕ) (slots last : List TrieSlot) → IsTrailAlong (trail_shape self.now) root.entry self.now h k slots last
             → IfOk result (λ rows. rows ≡ without k (entries_at_end h (trail_shape self.now) k (trail_blocks self.now) last)) }
-        ensures trie { (h : List ℕ → List ℕ) (k : List ℕ) (slots : List TrieSlot) (es : List (List ℕ × Data)) → HasSlots (trail_shape self.now) root.entry slots → IsTrailOf h (trail_shape self.now) k slots es self.now
+        ensures trie { (h : List ℕ → List ℕ) (k : List ℕ) (slots : List TrieSlot) (es : List (List ℕ × Data)) → IsTrailFrom (trail_shape self.now) root.entry self.now h k slots es
             → IfOk result (λ rows. rows ≡ without k (along h (trail_shape self.now) k (length (trail_blocks self.now) + 1) 0 es)) }
     {
-        match end_again(self.shape, root, &self.blocks, &self.hash, self.depth) {
+        match end_slot(self.shape, root, &self.blocks, &self.hash, self.depth) {
             NodeSlot::Bucket(bucket) => rows_without(alloc, bucket, self.key.as_str()),
             NodeSlot::Empty => Ok(Rows::new(alloc)),
             NodeSlot::Child(_) => Ok(Rows::new(alloc)),
@@ -96,10 +95,10 @@ impl Trail {
     fn rest(&self, alloc: Global, root: NodeView<'_>) -> Result<Option<Rows>, AllocError>
         ensures at_end { (h : List ℕ → List ℕ) (k : List ℕ) (slots last : List TrieSlot) → IsTrailAlong (trail_shape self.now) root.entry self.now h k slots last
             → RestIs k (entries_at_end h (trail_shape self.now) k (trail_blocks self.now) last) result }
-        ensures trie { (h : List ℕ → List ℕ) (k : List ℕ) (slots : List TrieSlot) (es : List (List ℕ × Data)) → HasSlots (trail_shape self.now) root.entry slots → IsTrailOf h (trail_shape self.now) k slots es self.now
+        ensures trie { (h : List ℕ → List ℕ) (k : List ℕ) (slots : List TrieSlot) (es : List (List ℕ × Data)) → IsTrailFrom (trail_shape self.now) root.entry self.now h k slots es
             → RestIs k (along h (trail_shape self.now) k (length (trail_blocks self.now) + 1) 0 es) result }
     {
-        match end_again(self.shape, root, &self.blocks, &self.hash, self.depth) {
+        match end_slot(self.shape, root, &self.blocks, &self.hash, self.depth) {
             NodeSlot::Bucket(bucket) => match bucket.find(self.key.as_str()) {
                 Some(_) => Ok(Some(rows_without(alloc, bucket, self.key.as_str())?)),
                 None => Ok(None),
@@ -118,8 +117,8 @@ impl Trail {
         store: &mut K,
     ) -> Result<Octets, HamtFault>
         requires { NestsIn deepest_value val.now }
-        ensures sets { (h : List ℕ → List ℕ) (k : List ℕ) (v : Data) (slots : List TrieSlot) (es : List (List ℕ × Data)) → IsTrailFrom (trail_shape self) root.entry self h k slots es → HasData val.now v
-            → is_some (node_of h (trail_shape self) (trie_levels (trail_shape self)) 0 (put bytewise k v es)) ≡ true → Sets h (trail_shape self) k v es (K.moment store.old) result (K.moment store.new) }
+        ensures sets { (h : List ℕ → List ℕ) (k : List ℕ) (v : Data) (slots : List TrieSlot) (es : List (List ℕ × Data)) → IsTrailFrom (trail_shape self) root.entry self h k slots es
+            → HasData val.now v → has_trie h (trail_shape self) (put bytewise k v es) ≡ true → Sets h (trail_shape self) k v es (K.moment store.old) result (K.moment store.new) }
         ensures edits { (h : List ℕ → List ℕ) (k : List ℕ) (v : Data) (slots last : List TrieSlot) → IsTrailAlong (trail_shape self) root.entry self h k slots last → HasData val.now v
             → SetsAlong (trail_shape self) (trail_blocks self) (is_full_at_end h (trail_shape self) k (trail_blocks self) last) (K.moment store.old) result (K.moment store.new) }
         ensures caused { CausedBy (K.moment store.old) result (K.moment store.new) }
@@ -176,14 +175,14 @@ impl Trail {
     ) -> Result<Octets, HamtFault>
         requires { NestsIn deepest_value val.now }
         ensures sets { (p : HamtShape) (k : List ℕ) (v : Data) (slots : List TrieSlot) (es : List (List ℕ × Data)) → IsTrailFrom p root.entry self H.hash_of k slots es → HasData val.now v
-            → is_some (node_of H.hash_of p (trie_levels p) 0 (put bytewise k v es)) ≡ true → Sets H.hash_of p k v es (K.moment store.old) result (K.moment store.new) }
+            → has_trie H.hash_of p (put bytewise k v es) ≡ true → Sets H.hash_of p k v es (K.moment store.old) result (K.moment store.new) }
         // Where the trie beneath the root was held, so is that beneath the answer; and each block that was added has its children held.
         ensures held { (p : HamtShape) (k : List ℕ) (v : Data) (slots : List TrieSlot) (es : List (List ℕ × Data)) → IsTrailFrom p root.entry self H.hash_of k slots es → HasData val.now v
-            → is_some (node_of H.hash_of p (trie_levels p) 0 (put bytewise k v es)) ≡ true
+            → has_trie H.hash_of p (put bytewise k v es) ≡ true
             → BothTold (K.moment store.old).blocks (K.moment store.new).blocks (HoldsAfter H.hash_of p es (put bytewise k v es) result) }
         // Each of the new nodes on the key's way was put, also one that was there before.
         ensures gives { (p : HamtShape) (k : List ℕ) (v : Data) (slots : List TrieSlot) (es : List (List ℕ × Data)) → IsTrailFrom p root.entry self H.hash_of k slots es → HasData val.now v
-            → is_some (node_of H.hash_of p (trie_levels p) 0 (put bytewise k v es)) ≡ true → GivesWay H.hash_of p k (put bytewise k v es) result (K.moment store.new) }
+            → has_trie H.hash_of p (put bytewise k v es) ≡ true → GivesWay H.hash_of p k (put bytewise k v es) result (K.moment store.new) }
         // Over every store, of whatever trie the nodes on the way are.
         ensures edits { (p : HamtShape) (k : List ℕ) (v : Data) (slots last : List TrieSlot) → IsTrailAlong p root.entry self H.hash_of k slots last → HasData val.now v
             → SetsAlong p (trail_blocks self) (is_full_at_end H.hash_of p k (trail_blocks self) last) (K.moment store.old) result (K.moment store.new) }

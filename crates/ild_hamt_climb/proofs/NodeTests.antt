@@ -1,11 +1,11 @@
 -- The test of a node's block, and what it says.
 use Rattle.std.proofs.Common.{◌≡◌, ℕ, true, List, None, refl, ap, ◌∙◌, subst}
-use Rattle.std.specs.Prelude.{is_none, IfSome, Option, Some}
+use Rattle.std.specs.Prelude.{is_none, Option, Some}
 use Rattle.std.proofs.lemmas.Bool.{and_from, and_parts}
 use Rattle.ild_data.specs.declared.hamt_shape.HamtShape.{HamtShape}
 use Rattle.ild_data.specs.Bytes.{AreBytes}
 use Rattle.ild_data.specs.Data.{Data}
-use Rattle.ild_data.specs.Trie.{TrieSlot, node_data}
+use Rattle.ild_data.specs.Trie.{node_data}
 use Rattle.ild_cbor.specs.Reading.{fault_of}
 use Rattle.ild_cbor.specs.Block.{IsBlockOf}
 use Rattle.ild_cbor.specs.declared.fault.CborFault.{CborFault}
@@ -13,9 +13,6 @@ use Rattle.ild_typed.specs.NodeReading.{node_fits}
 use Rattle.ild_typed.proofs.NodeRoots.{node-read, node-taken}
 use Rattle.ild_node_slots.specs.Spelled.{tree_in}
 use Rattle.ild_node_slots.proofs.Trees.{faultless, spelled-value, spelling-of}
-use Rattle.ild_node_slots.specs.Views.{HasSlots}
-use Rattle.ild_node_slots.specs.declared.view.NodeView.{NodeView}
-use Rattle.ild_hamt_climb.specs.Known.{SomeNode}
 use Rattle.ild_hamt_climb.specs.NodeBytes.{IsNodeBlock, is_node_bytes}
 
 pub node-tested : (p : HamtShape) (b : List ℕ) → IsNodeBlock p b → is_node_bytes p b ≡ true
@@ -36,7 +33,3 @@ node-told p b fits is =
     let block = spelling-of b fits both.0 in
     let n = node-taken p (tree_in b) p.wide block.within.tree both.1 in
     record { slots = n.slots; is = subst (λ (d : Data). IsBlockOf b d) n.is block; form = record { many = n.many; each = n.each } }
-
-pub some-known : (p : HamtShape) (r : Option NodeView) (slots : List TrieSlot) → IfSome r (λ v. HasSlots p v slots) → IfSome r (λ v. ∥ SomeNode p v ∥₁)
-some-known p None slots has = tt
-some-known p (Some v) slots has = ∣ record { slots = slots; has = has } ∣₁

@@ -7,9 +7,10 @@ ghost use Rattle.ild_data.specs.declared.hamt_shape.HamtShape.{HamtShape};
 ghost use Rattle.ild_node.specs.NewSlots.{slot_seen};
 ghost use Rattle.ild_node_slots.specs.Steps.{IsAtSlot};
 ghost use Rattle.ild_node_slots.specs.Views.{HasEntries, HasSlots};
+ghost use Rattle.ild_node_slots.specs.Walks.{SomeWalk};
 ghost use Rattle.ild_node_slots.specs.declared.view.NodeView.{NodeView};
 ghost use Rattle.ild_hamt_climb.specs.inside.Gathering.{put_each, some_entry};
-ghost use Rattle.ild_hamt_climb.specs.Known.{SomeBucket, SomeSlot, SomeWalk};
+ghost use Rattle.ild_hamt_climb.specs.Known.{SomeBucket, SomeSlot};
 ghost use Rattle.ild_hamt_climb.specs.Seen.{IsReadOf};
 
 use ild_node::{Bucket, NewHold, NodeSlot, Rows, Slots};

@@ -6,8 +6,7 @@ ghost use Rattle.ild_data.specs.Trie.{TrieSlot, empty, is_child, slots_at};
 ghost use Rattle.ild_data.specs.TrieShape.{index, trie_levels};
 ghost use Rattle.ild_hamt_trie.specs.Collapse.{sized};
 ghost use Rattle.ild_node.specs.NewSlots.{IsFilledSlot, slot_seen};
-ghost use Rattle.ild_node_slots.specs.Views.{HasSlots};
-ghost use Rattle.ild_hamt_climb.specs.Known.{SomeNode};
+ghost use Rattle.ild_node_slots.specs.Views.{HasSlots, view_shape};
 ghost use Rattle.ild_hamt_climb.specs.NodeBytes.{IsNodeBlock, IsNodeBytes};
 ghost use Rattle.ild_hamt_climb.specs.Planning.{ClimbsOver, IsWritten, LiftsOver};
 ghost use Rattle.ild_hamt_climb.specs.Rewriting.{ClimbState, DiffersAt, HasRoot, Lifts, way_up};
@@ -43,7 +42,7 @@ fn gathered(
     i: u8,
     slot: Option<NewHold>,
 ) -> Result<Option<NewHold>, AllocError>
-    requires { ∥ SomeNode shape view ∥₁ }
+    requires { view_shape view ≡ shape }
     ensures filled { IfOk result (IsFilledSlot shape) }
     ensures same { (h : List ℕ → List ℕ) (left depth : ℕ) (ss : List TrieSlot) (gs : List (List ℕ × Data)) → HasSlots shape view.entry ss → i < length ss → IsInOrder gs
         → slots_at h shape left depth gs ≡ Some (slice_set ss i (slot_seen slot)) → length gs ≤ shape.bucket → IfOk result (λ s. slot_seen s ≡ sized shape.bucket empty gs) }
@@ -67,7 +66,7 @@ fn lift(
     slot: Option<NewHold>,
     plan: &mut Vec<NamedBlock>,
 ) -> Result<Option<NewHold>, AllocError>
-    requires known { ∥ SomeNode shape view ∥₁ }
+    requires own { view_shape view ≡ shape }
     requires filled { IsFilledSlot shape slot }
     ensures filled { IfOk result (IsFilledSlot shape) }
     ensures lifts { (h : List ℕ → List ℕ) (left depth : ℕ) (ss : List TrieSlot) (gs : List (List ℕ × Data)) → HasSlots shape view.entry ss → i < length ss → IsInOrder gs
@@ -113,10 +112,9 @@ fn lift_block(
     ensures node { IsNodeBlock shape block.now }
     ensures over { (ss : List TrieSlot) → IsNodeOf shape block.now ss → IfOk result (λ s. LiftsOver ss (slot_seen slot) (slot_seen s) plan.old.items plan.new.items) }
 {
-    match view_in(shape, block) {
-        Some(view) => lift(alloc, shape, view, index_at(shape, hash, depth), slot, plan),
-        None => Ok(slot),
-    }
+    let view = view_in(shape, block);
+    let i = index_at(shape, hash, depth);
+    lift(alloc, shape, view, i, slot, plan)
 }
 
 /// The new root node of a HAMT of this shape, from the new slot at the end of a way. The blocks of the nodes in between are

@@ -1,7 +1,7 @@
 -- The slots of a node that was read are sound.
 use Rattle.std.proofs.Common.{ℕ, zero, suc, ◌≤◌, List, [], ◌∷◌, ◌++◌, map, set, flat_map, arith}
 use Rattle.std.specs.List.{AllByRecursion}
-use Rattle.ild_data.specs.Data.{Data, items_of, items_depth, depth}
+use Rattle.ild_data.specs.Data.{Data, items_of, items_depth}
 use Rattle.ild_data.specs.declared.hamt_shape.HamtShape.{HamtShape}
 use Rattle.ild_data.specs.Limits.{IsWithin}
 use Rattle.ild_data.specs.Tree.{AreTrees}

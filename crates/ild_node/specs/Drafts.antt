@@ -1,5 +1,5 @@
 -- A node that is written slot by slot.
-use Rattle.std.specs.Prelude.{◌≡◌, ◌≤◌, ◌*◌, ◌/◌, ◌^◌, ℕ, Bool, List, length, map, take, drop}
+use Rattle.std.specs.Prelude.{◌≡◌, ◌≤◌, ◌*◌, ◌^◌, ℕ, Bool, List, length, map, take, drop}
 use Rattle.std.specs.List.{AllByRecursion, flat_map, range_with_len}
 use Rattle.ild_data.specs.Data.{Data}
 use Rattle.ild_data.specs.declared.hamt_shape.HamtShape.{HamtShape}

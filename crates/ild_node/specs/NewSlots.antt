@@ -1,6 +1,6 @@
 -- The slots of a node that is written.
-use Rattle.std.specs.Prelude.{◌<◌, ◌≤◌, ℕ, zero, suc, ◌+◌, ◌^◌, ◌==◌, if◌then◌else◌, Bool, false, List, [], ◌∷◌, length, Option, Some, None}
-use Rattle.ild_data.specs.Trie.{TrieSlot, empty, bucket, child}
+use Rattle.std.specs.Prelude.{◌<◌, ◌≤◌, ℕ, zero, suc, ◌+◌, ◌^◌, ◌==◌, if◌then◌else◌, Bool, false, List, [], ◌∷◌, length, slice_index_or, slice_set, Option, Some, None}
+use Rattle.ild_data.specs.Trie.{TrieSlot, empty, bucket, child, is_used}
 use Rattle.ild_data.specs.declared.hamt_shape.HamtShape.{HamtShape}
 use Rattle.ild_node.specs.declared.hold.NewHold.{NewHold}
 use Rattle.ild_node.specs.declared.hold.NewHold.TheVariants as N
@@ -14,6 +14,14 @@ hold_seen (N.Bucket rows) = bucket rows
 abbrev pub slot_seen : Option NewHold → TrieSlot
 slot_seen None = empty
 slot_seen (Some h) = hold_seen h
+
+-- the slots of a node of which one is exchanged
+abbrev pub with_slot : List TrieSlot → ℕ → Option NewHold → List TrieSlot
+with_slot slots i new = slice_set slots i (slot_seen new)
+
+-- whether a slot is used, where slot i is exchanged for another
+abbrev pub is_used_with : List TrieSlot → ℕ → TrieSlot → ℕ → Bool
+is_used_with slots i s j = is_used (slice_index_or (slice_set slots i s) j empty)
 
 -- where only the used slots are given: those of so many indices from one on
 abbrev pub spread : ℕ → ℕ → List NewSlot → List TrieSlot

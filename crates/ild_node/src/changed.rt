@@ -1,9 +1,9 @@
 //! Writing a node of which one slot is exchanged: the elements of the others are copied as they are spelled, in two pieces.
-ghost use Rattle.std.specs.Prelude.{◌≡◌, ◌<◌, List, length, map, slice_set, slice_index_or, IfOk};
-ghost use Rattle.ild_data.specs.Trie.{TrieSlot, empty, is_used};
+ghost use Rattle.std.specs.Prelude.{◌≡◌, ◌<◌, List, length, map, slice_set, IfOk};
+ghost use Rattle.ild_data.specs.Trie.{TrieSlot, is_used};
 ghost use Rattle.ild_data.specs.declared.hamt_shape.HamtShape.{HamtShape};
 ghost use Rattle.ild_node_slots.specs.Views.{HasSlots};
-ghost use Rattle.ild_node.specs.NewSlots.{IsFilledSlot, slot_seen};
+ghost use Rattle.ild_node.specs.NewSlots.{IsFilledSlot, is_used_with, with_slot};
 ghost use Rattle.ild_node.specs.Written.{IsNodeBlock};
 
 use crate::hold::NewHold;
@@ -14,7 +14,7 @@ use std::alloc::{AllocError, Global};
 
 // Whether a slot is used, where slot i is exchanged for one that is used or not.
 fn is_on(view: NodeView<'_>, j: usize, i: u8, on: bool) -> bool
-    ensures { (p : HamtShape) (slots : List TrieSlot) (s : TrieSlot) → HasSlots p view.entry slots → on ≡ is_used s → j < length slots → result ≡ is_used (slice_index_or (slice_set slots i s) j empty) }
+    ensures { (p : HamtShape) (slots : List TrieSlot) (s : TrieSlot) → HasSlots p view.entry slots → on ≡ is_used s → j < length slots → result ≡ is_used_with slots i s j }
 {
     if j == i as usize {
         return on;
@@ -41,7 +41,7 @@ pub fn write_changed(
     i: u8,
     slot: &Option<NewHold>,
 ) -> Result<Octets, AllocError>
-    ensures { (p : HamtShape) (slots : List TrieSlot) → HasSlots p view.entry slots → IsFilledSlot p slot.now → i < length slots → IfOk result (IsNodeBlock p (slice_set slots i (slot_seen slot.now))) }
+    ensures { (p : HamtShape) (slots : List TrieSlot) → HasSlots p view.entry slots → IsFilledSlot p slot.now → i < length slots → IfOk result (IsNodeBlock p (with_slot slots i slot.now)) }
 {
     let used = used_after(alloc, view, i, slot.is_some())?;
     let mut out = begin(alloc, &used, count_of(&used))?;

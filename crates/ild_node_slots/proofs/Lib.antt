@@ -3,6 +3,7 @@ pub mod Iter
 pub mod Entries
 pub mod Trees
 pub mod Fits
+pub mod Holds
 pub mod Left
 pub mod Indexing
 pub mod Telling

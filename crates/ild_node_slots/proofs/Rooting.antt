@@ -16,13 +16,12 @@ use Rattle.ild_cbor.specs.Steps.{HasEntries, IteratesEntries, FindsEntries, Entr
 use Rattle.ild_data.specs.declared.hamt_shape.HamtShape.{HamtShape}
 use Rattle.ild_typed.specs.Hamt.{root_map}
 use Rattle.ild_data.specs.Trie.{TrieSlot, node_data}
-use Rattle.ild_typed.specs.Node.{IsRoot}
 use Rattle.ild_cbor.specs.declared.why.Why.{Why}
 use Rattle.std.specs.Prelude.{Result, Ok, Err, IfOk}
 use Rattle.ild_node_slots.specs.Views.{HasSlots, view_node}
 use Rattle.ild_node_slots.specs.declared.view.NodeView.{NodeView}
 use Rattle.ild_node_slots.specs.Form.{hash_alg, bucket_size}
-use Rattle.ild_node_slots.specs.Roots.{IsNext, NextOf, HasOtherInt}
+use Rattle.ild_node_slots.specs.Roots.{IsNext, NextOf, HasOtherInt, IsRootView}
 
 -- ---- integers
 
@@ -115,7 +114,7 @@ root-found p t n s0 s1 s2 s3 s4 item hash bucket r finds next0 next1 next2 gives
 -- the view of a root's node
 pub root-parts : (p : HamtShape) (t d : Data) (n item : Node) (r : Result NodeView Why) → t ≡ root_map p d → IsPart n item (place_of t 0) d
     → IfOk r (λ v. (slots : List TrieSlot) × (d ≡ node_data slots) × HasSlots p v slots) → IfOk r (λ v. view_node v ≡ item)
-    → IfOk r (λ v. (slots : List TrieSlot) × IsRoot p slots t × HasSlots p v slots × IsPart n (view_node v) (place_of t 0) (node_data slots))
+    → IfOk r (IsRootView p n t)
 root-parts p t d n item (Err e) is part found same = tt
 root-parts p t d n item (Ok v) is part found same = (
   found.0,

@@ -2,8 +2,10 @@ pub mod Form
 pub mod Places
 pub mod Told
 pub mod Items
+pub mod Slotted
 pub mod Views
 pub mod Steps
+pub mod Walks
 pub mod Spelled
 pub mod Roots
 pub mod inside

@@ -3,11 +3,16 @@ use Rattle.std.specs.Prelude.{◌≡◌, ◌≢◌, ℕ, ℤ, pos, ◌+◌, List
 use Rattle.ild_data.specs.Data.{Data, Members, no_members, member}
 use Rattle.ild_cbor.specs.declared.node.Node.{Node}
 use Rattle.ild_cbor.specs.declared.pairs.Pairs.{Pairs}
-use Rattle.ild_cbor.specs.Nodes.{HasData, block_of, start_of}
+use Rattle.ild_cbor.specs.Nodes.{HasData, IsPart, block_of, start_of}
 use Rattle.ild_data.specs.Spell.{spell_text}
+use Rattle.ild_data.specs.Trie.{TrieSlot, node_data}
+use Rattle.ild_data.specs.declared.hamt_shape.HamtShape.{HamtShape}
 use Rattle.ild_cbor.specs.Scalar.{int_of}
-use Rattle.ild_cbor.specs.Span.{entry_of}
+use Rattle.ild_cbor.specs.Span.{entry_of, place_of}
 use Rattle.ild_cbor.specs.Steps.{HasEntries}
+use Rattle.ild_typed.specs.Node.{IsRoot}
+use Rattle.ild_node_slots.specs.Views.{HasSlots, view_node}
+use Rattle.ild_node_slots.specs.declared.view.NodeView.{NodeView}
 use Rattle.ild_cbor.specs.declared.why.Why.{Why}
 use Rattle.ild_cbor.specs.declared.why.Why.TheVariants as W
 
@@ -30,6 +35,10 @@ pub record HasOtherInt (t : Data) (key : List ℕ) (wanted : ℕ) : Type 0 where
   pub found : ℤ
   pub is : option_and_then int_of (entry_of t key) ≡ Some found
   pub other : found ≢ pos wanted
+
+-- the view is that of the node of the root that an item is, behind its name
+abbrev pub IsRootView : HamtShape → Node → Data → NodeView → Type 0
+IsRootView p n t v = (slots : List TrieSlot) × IsRoot p slots t × HasSlots p v slots × IsPart n (view_node v) (place_of t 0) (node_data slots)
 
 -- the causes for which an item isn't read as a root
 abbrev pub IsRootWhy : Why → Type 0

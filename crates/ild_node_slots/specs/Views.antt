@@ -1,17 +1,16 @@
 -- What buckets, nodes and their slots stand for, as they were read.
-use Rattle.std.specs.Prelude.{◌≡◌, ℕ, List, get_or, slice_get, Option, Some, None}
+use Rattle.std.specs.Prelude.{◌≡◌, ℕ, suc, List, take, drop, get_or, slice_get, Option, Some, None}
 use Rattle.std.specs.Borrow.{Bor}
 use Rattle.ild_data.specs.Data.{Data, items_of}
 use Rattle.ild_data.specs.Spell.{spell_items}
 use Rattle.ild_data.specs.declared.hamt_shape.HamtShape.{HamtShape}
 use Rattle.std.specs.List.{flat_map}
-use Rattle.ild_data.specs.Trie.{TrieSlot, empty, bucket, child, map_of, elements_of, node_data}
-use Rattle.ild_node_slots.specs.Items.{IsAtItem}
+use Rattle.ild_data.specs.Trie.{TrieSlot, empty, bucket, child, elements_of, node_data}
 use Rattle.ild_cbor.specs.Nodes.{HasData, IsPart}
-use Rattle.ild_cbor.specs.Span.{place_of}
 use Rattle.ild_cbor.specs.declared.node.Node.{Node}
 use Rattle.ild_node_slots.specs.Form.{AreTexts, IsNode, bucket_data}
-use Rattle.ild_node_slots.specs.Places.{elements_data, slot_place, value_place}
+use Rattle.ild_node_slots.specs.Places.{slot_place, value_place}
+use Rattle.ild_node_slots.specs.Slotted.{IsSlotted, SomeSlots}
 use Rattle.ild_node_slots.specs.declared.bucket.Bucket.{Bucket}
 use Rattle.ild_node_slots.specs.declared.view.NodeView.{NodeView}
 use Rattle.ild_node_slots.specs.declared.view.NodeSlot.{NodeSlot}
@@ -54,13 +53,18 @@ ValueIn whole es key None (Some n) = ⊥
 ValueIn whole es key (Some d) None = ⊥
 
 -- the node has these slots, of a HAMT of this shape
-pub record HasSlots (p : HamtShape) (v : NodeView) (slots : List TrieSlot) : Type 0 where
-  pub shape : view_shape v ≡ p
-  pub stands : HasData (view_node v) (node_data slots)
-  pub map : v.map.now ≡ map_of slots
-  pub part : IsPart v.node v.data (place_of (node_data slots) 1) (elements_data slots)
-  pub elements : IsAtItem v.data (flat_map elements_of slots) 0 v.elements
-  pub form : IsNode p slots
+abbrev pub HasSlots : HamtShape → NodeView → List TrieSlot → Type 0
+HasSlots p v slots = IsSlotted p v.shape v.node v.data v.map.now v.elements slots
+
+-- the node has slots, of a HAMT of its own shape
+abbrev pub IsSomeNode : NodeView → Type 0
+IsSomeNode v = SomeSlots v.shape v.node v.data v.map.now v.elements
+
+-- the view is that of the node that an item is which stands for this
+pub record IsViewOf (p : HamtShape) (v : NodeView) (t : Data) : Type 0 where
+  pub slots : List TrieSlot
+  pub is : t ≡ node_data slots
+  pub has : HasSlots p v slots
 
 -- the item is a node of this shape
 pub record IsNodeItem (p : HamtShape) (n : Node) : Type 0 where
@@ -92,3 +96,7 @@ ElementIs r n o = ⊥
 -- the elements of slots as they are spelled, one behind the other
 abbrev pub spelled_elements : List TrieSlot → List ℕ
 spelled_elements slots = spell_items (items_of (flat_map elements_of slots))
+
+-- the elements of the slots before one, and those of the slots behind it
+abbrev pub AreBeside : List TrieSlot → ℕ → Bor (List ℕ) × Bor (List ℕ) → Type 0
+AreBeside slots i r = (r.0.now ≡ spelled_elements (take i slots)) × (r.1.now ≡ spelled_elements (drop (suc i) slots))

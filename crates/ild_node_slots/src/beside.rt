@@ -1,9 +1,8 @@
 //! What stands around a slot of a node.
-ghost use Rattle.std.specs.Prelude.{◌≡◌, ◌<◌, suc, List, length, take, drop, slice_index_or};
-ghost use Rattle.std.specs.List.{flat_map};
-ghost use Rattle.ild_data.specs.Trie.{TrieSlot, empty, is_used, elements_of};
+ghost use Rattle.std.specs.Prelude.{◌≡◌, ◌<◌, List, length, slice_index_or};
+ghost use Rattle.ild_data.specs.Trie.{TrieSlot, empty, is_used};
 ghost use Rattle.ild_data.specs.declared.hamt_shape.HamtShape.{HamtShape};
-ghost use Rattle.ild_node_slots.specs.Views.{HasSlots, spelled_elements};
+ghost use Rattle.ild_node_slots.specs.Views.{AreBeside, HasSlots};
 
 use crate::parts::{map_bit, ones_below};
 use crate::view::NodeView;
@@ -18,7 +17,7 @@ impl<'b> NodeView<'b> {
 
     /// The elements of the slots before one and those of the slots behind it, as they are spelled.
     pub fn around(&self, i: u8) -> (&'b [u8], &'b [u8])
-        ensures { (p : HamtShape) (slots : List TrieSlot) → HasSlots p self.now slots → i < length slots → (result.0.now ≡ spelled_elements (take i slots)) × (result.1.now ≡ spelled_elements (drop (suc i) slots)) }
+        ensures { (p : HamtShape) (slots : List TrieSlot) → HasSlots p self.now slots → i < length slots → AreBeside slots i result }
     {
         let own = map_bit(self.map, i as usize);
         self.data

@@ -4,6 +4,7 @@
 mod beside;
 mod bucket;
 mod fault;
+mod holding;
 mod level;
 mod node;
 mod parts;

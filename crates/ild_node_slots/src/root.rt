@@ -9,8 +9,8 @@ ghost use Rattle.ild_cbor.specs.Steps.{HasEntries};
 ghost use Rattle.ild_typed.specs.Hamt.{root_map};
 ghost use Rattle.ild_typed.specs.Node.{IsRoot};
 ghost use Rattle.ild_node_slots.specs.Form.{IsNode, hash_alg, bucket_size};
-ghost use Rattle.ild_node_slots.specs.Roots.{NextOf, HasOtherInt, IsRootWhy};
-ghost use Rattle.ild_node_slots.specs.Views.{HasSlots, view_node};
+ghost use Rattle.ild_node_slots.specs.Roots.{NextOf, HasOtherInt, IsRootView, IsRootWhy};
+ghost use Rattle.ild_node_slots.specs.Views.{HasSlots};
 
 use crate::node::node_of;
 use crate::view::NodeView;
@@ -75,7 +75,7 @@ fn root_item<'b>(node: &Node<'b>, shape: HamtShape) -> Option<Node<'b>>
 /// The node of a HAMT of this shape whose root an item is.
 pub fn root_of<'b>(node: Node<'b>, shape: HamtShape) -> Result<NodeView<'b>, Why>
     // What is read is a root, and the view is that of its node, which stands behind its name.
-    ensures found { (t : Data) → HasData node.entry t → IfOk result (λ v. (slots : List TrieSlot) × IsRoot shape slots t × HasSlots shape v slots × IsPart node.entry (view_node v) (place_of t 0) (node_data slots)) }
+    ensures found { (t : Data) → HasData node.entry t → IfOk result (IsRootView shape node.entry t) }
     // A root is read, as the slots of its node.
     ensures only { (slots : List TrieSlot) (t : Data) → HasData node.entry t → IsRoot shape slots t → IsOk result × IfOk result (λ v. HasSlots shape v slots) }
     // Another hash is told first, then another size of buckets, also of a map that is no root otherwise.

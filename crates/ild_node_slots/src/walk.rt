@@ -6,9 +6,10 @@ ghost use Rattle.ild_data.specs.declared.hamt_shape.HamtShape.{HamtShape};
 ghost use Rattle.ild_node_slots.specs.Steps.{IsAtSlot, SlotsGive};
 ghost use Rattle.ild_node_slots.specs.Views.{HasSlots};
 
+use crate::holding::slot_in;
 use crate::parts::map_bit;
 use crate::slots::Slots;
-use crate::view::{NodeSlot, NodeView, slot_in};
+use crate::view::{NodeSlot, NodeView};
 
 impl<'b> NodeView<'b> {
     /// All slots in order of their indices, those that are empty among them.

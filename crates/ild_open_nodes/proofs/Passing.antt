@@ -149,7 +149,3 @@ module _ {A : Type 0} (O : List (List ℕ) → ℕ → A → Type 0) (G : List (
       only = p.only;
       gets = λ held cost told g. let l = p.left held cost told g in let one = l.gets in omega (arith, one);
     }
-
-    -- memory is wanting
-    pub passing_full : Passes (λ held. EachOwned (O held) xs) (λ held cost. SumsTo (G held) 0 xs cost) Broken m (Err F.Memory) n
-    passing_full = record { answer = tt; only = p.only; gets = λ held cost told g. let l = p.left held cost told g in let one = l.gets in omega (arith, one) }

@@ -4,6 +4,7 @@ ghost use Rattle.ild_data.specs.Data.{Data};
 ghost use Rattle.ild_data.specs.Trie.{TrieSlot, bucket, child};
 ghost use Rattle.ild_data.specs.TrieShape.{trie_levels};
 ghost use Rattle.ild_node_slots.specs.Views.{HasEntries, HasSlots, SlotHolds};
+ghost use Rattle.ild_node_slots.specs.Walks.{SomeEntries, SomeHold};
 ghost use Rattle.ild_node_slots.specs.declared.view.NodeView.{NodeView};
 ghost use Rattle.ild_open_nodes.specs.inside.Beneath.{PassesBucketEntry, PassesChild, PassesSlot, PassesSlots};
 ghost use Rattle.ild_open_read.specs.inside.Sound.{AreSound};
@@ -69,6 +70,7 @@ fn pass_bucket<'b, K: Store, H: KeyHash>(
     requires within { read_as.value.ty.0 < length acc.now }
     requires room { read_as.room ≤ 96 }
     requires short { length way.now < trie_levels read_as.shape }
+    requires known { ∥ SomeEntries entries ∥₁ }
     requires sound { AreSound H.hash_of acc.now (K.moment store.old) known.old }
     ensures passes { (slots : List TrieSlot) (es : List (List ℕ × Data)) → slice_get slots i ≡ Some (bucket es) → HasEntries entries.entry es
         → PassesSlot H.hash_of read_as.shape acc.now read_as.room read_as.key read_as.value way.now at.0 slots i (bucket es) (K.moment store.old) result (K.moment store.new) }
@@ -76,7 +78,7 @@ fn pass_bucket<'b, K: Store, H: KeyHash>(
 {
     for j in 0..entries.len() {
         let Some((key, item)) = entries.entry(j) else {
-            return Err(OpenFault::Memory);
+            unreachable!();
         };
         pass_entry(reader, acc, read_as, key, item, way, i, at, known, store)?;
     }
@@ -162,6 +164,7 @@ fn pass_at<'b, K: Store, H: KeyHash>(
     requires within { read_as.value.ty.0 < length acc.now }
     requires room { read_as.room ≤ 96 }
     requires short { length way.now < trie_levels read_as.shape }
+    requires known { ∥ SomeHold slot ∥₁ }
     requires sound { AreSound H.hash_of acc.now (K.moment store.old) known.old }
     ensures passes { (v : NodeView) (slots : List TrieSlot) (s : TrieSlot) → slice_get slots i ≡ Some s → SlotHolds v slots i slot.entry s
         → PassesSlot H.hash_of read_as.shape acc.now read_as.room read_as.key read_as.value way.now at.0 slots i s (K.moment store.old) result (K.moment store.new) }
@@ -198,9 +201,9 @@ pub(crate) fn pass_slots<'b, K: Store, H: KeyHash>(
     ensures sound { AreSound H.hash_of acc.now (K.moment store.new) known.new }
 {
     let mut slots = view.slots();
-    for i in 0..read_as.shape.slots() {
+    for i in 0..view.shape().slots() {
         let Some(slot) = slots.next() else {
-            return Err(OpenFault::Memory);
+            unreachable!();
         };
         pass_at(reader, acc, read_as, slot, way, i as u8, at, known, store)?;
     }

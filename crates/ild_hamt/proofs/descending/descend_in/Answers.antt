@@ -58,7 +58,7 @@ returns g c = λ slots has.
     let inv = rw c.in_default.is at c.loop-next.invariant in
     going-done g.H.KeyHash.hash_of c.args.shape c.args.key.now c.hash-hash.result slots _ c.loop-next.depth _ _ c.end_slot-slot.result c.args.shape.wide
     (c.hash-hash.ensures ∙ ap g.H.KeyHash.hash_of c.as_bytes.ensures.value) (inv.3 slots has) refl c.in_ok-key.ensures refl refl
-    (stands-at c.args.shape c.args.root c.end_slot-slot.result c.hash-hash.result c.loop-next.depth slots c.deref.result.now _ c.deref.ensures.value has c.end_slot-slot.ensures) (λ y at. c.is_full-exhausted.ensures g.H.KeyHash.hash_of y at (c.deref-2.ensures.value ∙ c.in_ok-others.ensures y at)) (λ y at. c.in_ok-others.ensures y at)
+    (stands-at c.args.shape c.args.root c.end_slot-slot.result c.hash-hash.result c.loop-next.depth slots c.deref.result.now _ c.deref.ensures.value has c.end_slot-slot.ensures.shows) (λ y at. c.is_full-exhausted.ensures g.H.KeyHash.hash_of y at (c.deref-2.ensures.value ∙ c.in_ok-others.ensures y at)) (λ y at. c.in_ok-others.ensures y at)
 
 pub reach-requires : goal.reach-requires
 reach-requires g c = let inv = rw c.in-Some.is at c.loop-next.invariant in inv.2 refl

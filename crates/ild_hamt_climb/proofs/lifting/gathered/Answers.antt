@@ -2,6 +2,7 @@ use Rattle.std.proofs.Common.{◌+◌, ◌^◌, arith}
 use Rattle.std.proofs.Math.Logic.{∥∥₁_map}
 use Rattle.ild_data.specs.Trie.{node_of, at_depth}
 use Rattle.ild_node.specs.NewSlots.{slot_seen}
+use Rattle.ild_node_slots.proofs.Fits.{some-node, slots-at}
 use Rattle.ild_hamt_climb.proofs.Weights.{exchanged, gather-first, gather-more, gather-done}
 use Rattle.ild_hamt_climb.proofs.lifting.gathered.Goals as goal
 
@@ -14,7 +15,9 @@ loop-j-init c = (
 )
 
 pub put_next-requires : goal.put_next-requires
-put_next-requires c = ∥∥₁_map c.requires (λ n. record { shape = c.args.shape; view = c.args.view; slots = n.slots; has = n.has; at = c.loop-j.invariant.0 n.slots n.has })
+put_next-requires c = ∥∥₁_map (some-node c.args.view) (λ n.
+    let has = slots-at c.args.shape c.args.view c.requires n in
+    record { shape = c.args.shape; view = c.args.view; slots = n.slots; has = has; at = c.loop-j.invariant.0 n.slots has })
 
 pub loop-j-preserved : goal.loop-j-preserved
 loop-j-preserved c = (

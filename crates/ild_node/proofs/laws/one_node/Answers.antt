@@ -1,4 +1,4 @@
-use Rattle.std.proofs.Common.{◌∙◌, sym, arith}
+use Rattle.std.proofs.Common.{◌∙◌, sym}
 use Rattle.ild_hamt_trie.proofs.Bits.{same_node}
 use Rattle.ild_node_slots.proofs.Shapes.{whole_map}
 use Rattle.ild_node.proofs.laws.one_node.Goals as goal

@@ -1,4 +1,4 @@
-use Rattle.std.proofs.Common.{◌^◌, length, map, sym, ap, ◌∙◌, refl, arith}
+use Rattle.std.proofs.Common.{◌^◌, length, map, sym, ap, ◌∙◌, arith}
 use Rattle.ild_data.specs.Trie.{is_used}
 use Rattle.ild_node.specs.NewSlots.{hold_seen, IsFilled, slots_seen, spread}
 use Rattle.ild_node.specs.Written.{IsSound}

@@ -1,33 +1,35 @@
-use Rattle.std.proofs.Common.{sym, refl, ap, ◌∙◌, arith}
-use Rattle.ild_data.specs.Trie.{node_data}
-use Rattle.ild_typed.specs.NodeReading.{pair_fits}
-use Rattle.ild_typed.proofs.NodeRoots.{node-read}
-use Rattle.ild_node_slots.proofs.Fits.{PartsOf, parts-of, view-only}
+use Rattle.std.proofs.Common.{List}
+use Rattle.std.proofs.Math.Logic.{∥∥₁_elim, ∥∥₁_map}
+use Rattle.std.proofs.Props.{props}
+use Rattle.ild_data.specs.Trie.{TrieSlot, node_data}
+use Rattle.ild_cbor.specs.Nodes.{HasData}
+use Rattle.ild_node_slots.specs.Form.{IsNode}
+use Rattle.ild_node_slots.specs.Slotted.{IsSlotted}
+use Rattle.ild_node_slots.proofs.Fits.{parts-of, slotted}
 use Rattle.ild_node_slots.proofs.node.known_node.Goals as goal
 
-pub returns : goal.returns
-returns c = λ slots h form.
-    let parts : PartsOf c.args.node (node_data slots) c.in_ok-map.map.now c.in_ok-ones.data c.in_ok-elements.elements =
-    parts-of c.args.node (node_data slots) c.in_ok-ones.ones c.in_ok-ones.data _ _ (c.in_ok-ones.ensures (node_data slots) h) c.in_ok-map.ensures c.in_ok-elements.ensures in (
-      refl,
-      view-only c.args.shape _ c.args.node slots (record {
-        node_is = refl;
-        shape_is = refl;
-        ones = c.in_ok-map.map.now;
-        parts = parts.parts;
-        pair = parts.pair;
-        map = refl;
-        elements = parts.elements;
-        items = parts.items;
-        fits = sym (ap (pair_fits c.args.shape) parts.pair) ∙ node-read c.args.shape slots c.args.shape.wide form.many form.each;
-      }) h form,
-    )
+pub unreachable-requires : goal.unreachable-requires
+unreachable-requires c = ∥∥₁_elim c.requires (hlevel props) (λ x. c.in_default.ensures (node_data x.slots) x.stands)
 
-pub returns-in_err-ones : goal.returns-in_err-ones
-returns-in_err-ones c = λ slots h form. absurd (c.in_err-ones.ensures (node_data slots) h)
+pub unreachable-requires-in_default-bytes : goal.unreachable-requires-in_default-bytes
+unreachable-requires-in_default-bytes c =
+    ∥∥₁_elim c.requires (hlevel props) (λ x. let none = c.in_default-bytes.ensures _ (c.in-Some.ensures (node_data x.slots) x.stands).0.stands in absurd cc)
 
-pub returns-in_err-map : goal.returns-in_err-map
-returns-in_err-map c = λ slots h form. let none = c.in_err-map.ensures _ (c.in_ok-ones.ensures (node_data slots) h).0.stands in absurd cc
+pub unreachable-requires-in_default-items : goal.unreachable-requires-in_default-items
+unreachable-requires-in_default-items c =
+    ∥∥₁_elim c.requires (hlevel props) (λ x. c.in_default-items.ensures _ (c.in-Some.ensures (node_data x.slots) x.stands).1.stands)
 
-pub returns-in_err-elements : goal.returns-in_err-elements
-returns-in_err-elements c = λ slots h form. absurd (c.in_err-elements.ensures _ (c.in_ok-ones.ensures (node_data slots) h).1.stands)
+-- the parts of the item are those of the slots of a node that it is
+parts_slotted : (c : goal.In-Some-items) (slots : List TrieSlot) → HasData c.args.node (node_data slots) → IsNode c.args.shape slots
+    → IsSlotted c.args.shape c.args.shape c.args.node c.in-Some.data c.in-Some-bytes.map.now c.in-Some-items.elements slots
+parts_slotted c slots h form =
+    slotted c.args.shape c.args.node c.in-Some.data c.in-Some-bytes.map.now c.in-Some-items.elements slots
+    (parts-of c.args.node (node_data slots) c.in-Some.ones c.in-Some.data _ _ (c.in-Some.ensures (node_data slots) h) c.in-Some-bytes.ensures c.in-Some-items.ensures) h form
+
+pub invariant_of-result : goal.invariant_of-result
+invariant_of-result c = record { stands = ∥∥₁_map c.requires (λ x. record { slots = x.slots; has = parts_slotted c x.slots x.stands x.form }) }
+
+pub returns-clause-only : goal.returns-clause-only
+returns-clause-only c = λ slots h form.
+    slotted c.args.shape c.args.node c.in-Some.data c.in-Some-bytes.map.now c.in-Some-items.elements slots
+    (parts-of c.args.node (node_data slots) c.in-Some.ones c.in-Some.data _ _ (c.in-Some.ensures (node_data slots) h) c.in-Some-bytes.ensures c.in-Some-items.ensures) h form

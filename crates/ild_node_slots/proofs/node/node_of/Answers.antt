@@ -1,17 +1,15 @@
-use Rattle.std.proofs.Common.{refl, arith}
+use Rattle.std.proofs.Common.{refl}
 use Rattle.std.proofs.lemmas.Bool.{both_ways}
 use Rattle.ild_data.specs.Trie.{node_data}
-use Rattle.ild_node_slots.proofs.Fits.{view-taken, view-only}
+use Rattle.ild_node_slots.proofs.Fits.{slots-same}
 use Rattle.ild_typed.proofs.NodeRoots.{node-read}
 use Rattle.ild_node_slots.proofs.node.node_of.Goals as goal
 
 pub returns-in-Some-clause-found : goal.returns-in-Some-clause-found
-returns-in-Some-clause-found c = λ t h.
-    let s = view-taken c.args.shape c.in-Some.view c.args.node t (c.in-Some.ensures.view t h) h in
-    (s.slots, s.is, s.has)
+returns-in-Some-clause-found c = λ t h. let s = c.in-Some.ensures.view t h in (s.slots, s.is, s.has)
 
 pub returns-in-Some-clause-only : goal.returns-in-Some-clause-only
-returns-in-Some-clause-only c = λ slots h form. (refl, view-only c.args.shape c.in-Some.view c.args.node slots (c.in-Some.ensures.view (node_data slots) h) h form)
+returns-in-Some-clause-only c = λ slots h form. let s = c.in-Some.ensures.view (node_data slots) h in (refl, slots-same c.args.shape c.in-Some.view s.slots slots s.has s.is form)
 
 pub returns-in-None-clause-only : goal.returns-in-None-clause-only
 returns-in-None-clause-only c = λ slots h form.

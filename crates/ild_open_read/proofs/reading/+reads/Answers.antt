@@ -1,4 +1,4 @@
-use Rattle.std.proofs.Common.{◌≡◌, ◌+◌, ℕ, List, [], ◌∷◌, ◌++◌, length, Some, false, refl, sym, ◌∙◌, ap, subst, arith}
+use Rattle.std.proofs.Common.{◌≡◌, ◌+◌, ◌^◌, ℕ, List, [], ◌∷◌, ◌++◌, length, Option, None, Some, false, refl, sym, ◌∙◌, ap, subst, arith}
 use Rattle.std.specs.Prelude.{Ok, Err, slice_get}
 use Rattle.std.specs.List.{AllByRecursion}
 use Rattle.std.proofs.Math.Logic.{∥∥₁_elim, ∥∥₁_map}
@@ -46,14 +46,19 @@ use Rattle.ild_open_parts.proofs.Hamting.{hamt_stops}
 use Rattle.ild_cbor.specs.declared.piece.Piece.TheVariants as P
 use Rattle.std.proofs.Common.{length-append}
 use Rattle.ild_data.specs.Trie.{empty}
-use Rattle.ild_node_slots.specs.Views.{SlotHolds}
+use Rattle.ild_node_slots.specs.Views.{EntryIs, SlotHolds, view_shape}
+use Rattle.ild_node_slots.specs.Walks.{SomeHold}
+use Rattle.ild_node_slots.specs.declared.view.NodeSlot.{NodeSlot}
+use Rattle.ild_node_slots.proofs.Fits.{some-node}
+use Rattle.ild_node_slots.proofs.Holds.{some-hold}
+use Rattle.ild_data.specs.declared.hamt_shape.HamtShape.{HamtShape}
 use Rattle.ild_node_slots.proofs.Shapes.{levels_few, levels_some, pow_few}
 use Rattle.ild_open_nodes.specs.inside.Beneath.{BrokenIn}
 use Rattle.ild_open_nodes.specs.Nodes.{SlotGiven, SlotOwned}
 use Rattle.ild_open_nodes.specs.Reading.{IsNodeView, ReadsNode}
 use Rattle.ild_open_nodes.proofs.Entries.{entry_read, entry_refused, entry_stops, entry_strays}
 use Rattle.ild_open_nodes.proofs.Noding.{gets_only}
-use Rattle.ild_open_nodes.proofs.Passing.{found_at, passing_begins, passing_ends, passing_full, passing_goes, passing_stops, passes_wants, there_at}
+use Rattle.ild_open_nodes.proofs.Passing.{found_at, passing_begins, passing_ends, passing_goes, passing_stops, passes_wants, there_at}
 use Rattle.ild_open_nodes.proofs.Slotting.{Given, Owned, bucket_passes, child_deep, child_passes, in_earlier}
 use Rattle.ild_open_read.proofs.Noded.{at_bucket, at_child, at_empty, node_done, node_faulty, node_known, node_missing, node_stops, reads_entry}
 use Rattle.ild_open_read.proofs.Knowing.{hamt_reads, known_still, node_passed, node_remembered, passed, remembered, still_sound}
@@ -595,7 +600,7 @@ pass_rows-pass_slots-requires g t c = λ κs le.
 
 pub nodes::pass_slots-loop-i-init : goal.nodes::pass_slots-loop-i-init
 nodes::pass_slots-loop-i-init g t c = (
-  λ slots has. c.slots-slots.ensures c.args.read_as.shape slots has,
+  λ p slots has. c.slots-slots.ensures p slots has,
   λ slots has.
       passing_begins (λ held. SlotOwned g.H.KeyHash.hash_of c.args.read_as.shape c.args.acc.now c.args.read_as.room c.args.read_as.key c.args.read_as.value held c.args.way.now)
       (λ held. SlotGiven g.H.KeyHash.hash_of c.args.read_as.shape c.args.acc.now c.args.read_as.room c.args.read_as.key c.args.read_as.value held c.args.way.now) slots (g.K.Store.moment c.args.store.now),
@@ -603,20 +608,27 @@ nodes::pass_slots-loop-i-init g t c = (
 )
 
 pub nodes::pass_slots-overflow_cast-i : goal.nodes::pass_slots-overflow_cast-i
-nodes::pass_slots-overflow_cast-i g t c = omega (arith, pow_few c.args.read_as.shape)
+nodes::pass_slots-overflow_cast-i g t c = omega (arith, pow_few c.shape.result)
 
-pub nodes::pass_slots-returns-in_default-clause-passes : goal.nodes::pass_slots-returns-in_default-clause-passes
-nodes::pass_slots-returns-in_default-clause-passes g t c = λ slots has.
-    passing_full (λ held. SlotOwned g.H.KeyHash.hash_of c.args.read_as.shape c.args.acc.now c.args.read_as.room c.args.read_as.key c.args.read_as.value held c.args.way.now)
-    (λ held. SlotGiven g.H.KeyHash.hash_of c.args.read_as.shape c.args.acc.now c.args.read_as.room c.args.read_as.key c.args.read_as.value held c.args.way.now) slots
-    (BrokenIn g.H.KeyHash.hash_of c.args.read_as.shape c.args.acc.now c.args.read_as.room c.args.read_as.key c.args.read_as.value c.args.way.now c.args.at.0 slots) c.loop-i.i _ _ (c.loop-i.invariant.1 slots has)
+pub nodes::pass_slots-unreachable-requires : goal.nodes::pass_slots-unreachable-requires
+nodes::pass_slots-unreachable-requires g t c =
+    ∥∥₁_elim (some-node c.args.view) (hlevel props) (λ n.
+    let p = view_shape c.args.view in
+    let past = c.in_default.ensures.steps p c.args.view n.slots c.loop-i.i n.has (c.loop-i.invariant.0 p n.slots n.has) in
+    let many = n.has.form.many in
+    let own = ap (λ (q : HamtShape). 2 ^ q.width) c.shape.ensures in
+    absurd (omega (arith, past, many, own)))
 
 pub nodes::pass_slots-pass_at-requires : goal.nodes::pass_slots-pass_at-requires
-nodes::pass_slots-pass_at-requires g t c = λ κs le. (omega arith, (le.0, (le.1, (c.requires.keyed, (c.requires.within, (c.requires.room, (c.requires.short, c.loop-i.invariant.2)))))))
+nodes::pass_slots-pass_at-requires g t c = λ κs le.
+    let p = view_shape c.args.view in
+    let known = ∥∥₁_map (some-node c.args.view) (λ n.
+    some-hold c.args.view n.slots c.loop-i.i c.in-Some.slot (c.in-Some.ensures.steps p c.args.view n.slots c.loop-i.i n.has (c.loop-i.invariant.0 p n.slots n.has)).1) in
+    (omega arith, (le.0, (le.1, (c.requires.keyed, (c.requires.within, (c.requires.room, (c.requires.short, (known, c.loop-i.invariant.2))))))))
 
 pub nodes::pass_slots-returns-in_err-pass_at-clause-passes : goal.nodes::pass_slots-returns-in_err-pass_at-clause-passes
 nodes::pass_slots-returns-in_err-pass_at-clause-passes g t c = λ slots has.
-    let step = c.in-Some.ensures.steps c.args.read_as.shape c.args.view slots c.loop-i.i has (c.loop-i.invariant.0 slots has) in
+    let step = c.in-Some.ensures.steps c.args.read_as.shape c.args.view slots c.loop-i.i has (c.loop-i.invariant.0 c.args.read_as.shape slots has) in
     let s = there_at slots c.loop-i.i step.0 in
     let holds = subst (SlotHolds c.args.view slots c.loop-i.i c.in-Some.slot) (found_at slots c.loop-i.i s.0 empty s.1) step.1 in
     let p = err_from_is_err_and c.from_residual.result c.from_residual.ensures.1 in
@@ -627,9 +639,9 @@ nodes::pass_slots-returns-in_err-pass_at-clause-passes g t c = λ slots has.
 
 pub nodes::pass_slots-loop-i-preserved : goal.nodes::pass_slots-loop-i-preserved
 nodes::pass_slots-loop-i-preserved g t c = (
-  λ slots has. (c.in-Some.ensures.steps c.args.read_as.shape c.args.view slots c.loop-i.i has (c.loop-i.invariant.0 slots has)).2,
+  λ p slots has. (c.in-Some.ensures.steps p c.args.view slots c.loop-i.i has (c.loop-i.invariant.0 p slots has)).2,
   λ slots has.
-      let step = c.in-Some.ensures.steps c.args.read_as.shape c.args.view slots c.loop-i.i has (c.loop-i.invariant.0 slots has) in
+      let step = c.in-Some.ensures.steps c.args.read_as.shape c.args.view slots c.loop-i.i has (c.loop-i.invariant.0 c.args.read_as.shape slots has) in
       let s = there_at slots c.loop-i.i step.0 in
       let holds = subst (SlotHolds c.args.view slots c.loop-i.i c.in-Some.slot) (found_at slots c.loop-i.i s.0 empty s.1) step.1 in
       passing_goes (λ held. SlotOwned g.H.KeyHash.hash_of c.args.read_as.shape c.args.acc.now c.args.read_as.room c.args.read_as.key c.args.read_as.value held c.args.way.now)
@@ -642,9 +654,10 @@ nodes::pass_slots-loop-i-preserved g t c = (
 pub nodes::pass_slots-returns-clause-passes : goal.nodes::pass_slots-returns-clause-passes
 nodes::pass_slots-returns-clause-passes g t c = λ slots has.
     let many = has.form.many in
+    let own = ap (λ (q : HamtShape). 2 ^ q.width) (c.shape.ensures ∙ has.shape) in
     passing_ends (λ held. SlotOwned g.H.KeyHash.hash_of c.args.read_as.shape c.args.acc.now c.args.read_as.room c.args.read_as.key c.args.read_as.value held c.args.way.now)
     (λ held. SlotGiven g.H.KeyHash.hash_of c.args.read_as.shape c.args.acc.now c.args.read_as.room c.args.read_as.key c.args.read_as.value held c.args.way.now) slots
-    (BrokenIn g.H.KeyHash.hash_of c.args.read_as.shape c.args.acc.now c.args.read_as.room c.args.read_as.key c.args.read_as.value c.args.way.now c.args.at.0 slots) c.loop-i.i _ _ (c.loop-i.invariant.1 slots has) (omega (arith, many))
+    (BrokenIn g.H.KeyHash.hash_of c.args.read_as.shape c.args.acc.now c.args.read_as.room c.args.read_as.key c.args.read_as.value c.args.way.now c.args.at.0 slots) c.loop-i.i _ _ (c.loop-i.invariant.1 slots has) (omega (arith, many, own))
 
 pub nodes::pass_at-returns-in-Empty-clause-passes : goal.nodes::pass_at-returns-in-Empty-clause-passes
 nodes::pass_at-returns-in-Empty-clause-passes g t c = λ v slots s there holds.
@@ -661,7 +674,9 @@ nodes::pass_at-returns-in-Child-clause-passes g t c = λ v slots s there holds.
     (subst (λ r. SlotHolds v slots c.args.i r s) c.in-Child.is holds) (λ own. c.pass_child.ensures.passes slots own)
 
 pub nodes::pass_at-pass_bucket-requires : goal.nodes::pass_at-pass_bucket-requires
-nodes::pass_at-pass_bucket-requires g t c = λ κs le. (omega arith, (le.0, (le.1, (c.requires.keyed, (c.requires.within, (c.requires.room, (c.requires.short, c.requires.sound)))))))
+nodes::pass_at-pass_bucket-requires g t c = λ κs le.
+    let known = subst (λ (r : NodeSlot). ∥ SomeHold r ∥₁) c.in-Bucket.is c.requires.known in
+    (omega arith, (le.0, (le.1, (c.requires.keyed, (c.requires.within, (c.requires.room, (c.requires.short, (known, c.requires.sound))))))))
 
 pub nodes::pass_at-pass_child-requires : goal.nodes::pass_at-pass_child-requires
 nodes::pass_at-pass_child-requires g t c = λ κs le. (omega arith, (le.0, (le.1, (c.requires.keyed, (c.requires.within, (c.requires.room, (c.requires.short, c.requires.sound)))))))
@@ -739,12 +754,12 @@ nodes::pass_bucket-loop-j-init g t c = (
   c.requires.sound,
 )
 
-pub nodes::pass_bucket-returns-in_default-clause-passes : goal.nodes::pass_bucket-returns-in_default-clause-passes
-nodes::pass_bucket-returns-in_default-clause-passes g t c = λ slots es there has.
-    bucket_passes g.H.KeyHash.hash_of c.args.read_as.shape c.args.acc.now c.args.read_as.room c.args.read_as.key c.args.read_as.value c.args.way.now c.args.at.0 slots c.args.i es _ _ _
-    (passing_full (Owned g.H.KeyHash.hash_of c.args.read_as.shape c.args.acc.now c.args.read_as.room c.args.read_as.key c.args.read_as.value c.args.way.now c.args.at.0 slots c.args.i es)
-    (Given g.H.KeyHash.hash_of c.args.read_as.shape c.args.acc.now c.args.read_as.room c.args.read_as.key c.args.read_as.value c.args.way.now c.args.at.0 slots c.args.i es) es
-    (BrokenIn g.H.KeyHash.hash_of c.args.read_as.shape c.args.acc.now c.args.read_as.room c.args.read_as.key c.args.read_as.value c.args.way.now c.args.at.0 slots) c.loop-j.j _ _ (c.loop-j.invariant.0 slots es there has))
+pub nodes::pass_bucket-unreachable-requires : goal.nodes::pass_bucket-unreachable-requires
+nodes::pass_bucket-unreachable-requires g t c =
+    ∥∥₁_elim c.requires.known (hlevel props) (λ b.
+    let many = c.len-j-end.ensures b.es b.has in
+    let e = there_at b.es c.loop-j.j (omega (arith, many)) in
+    subst (λ (o : Option (List ℕ × Data)). EntryIs c.args.entries b.es c.loop-j.j o None) e.1 (c.in_default.ensures b.es b.has))
 
 pub nodes::pass_bucket-pass_entry-requires : goal.nodes::pass_bucket-pass_entry-requires
 nodes::pass_bucket-pass_entry-requires g t c = λ κs le. (omega arith, (le.0, (le.1, (c.requires.keyed, (c.requires.within, (c.requires.room, (c.requires.short, c.loop-j.invariant.1)))))))

@@ -17,6 +17,7 @@ use Rattle.ild_open_read.specs.inside.Sound.{AreSound}
 use Rattle.std.specs.Prelude.{slice_get}
 use Rattle.ild_data.specs.Trie.{TrieSlot, bucket}
 use Rattle.ild_data.specs.TrieShape.{trie_levels}
+use Rattle.ild_data.specs.declared.hamt_shape.HamtShape.{HamtShape}
 use Rattle.ild_node_slots.specs.Steps.{IsAtSlot}
 use Rattle.ild_node_slots.specs.Views.{HasEntries, HasSlots}
 use Rattle.ild_open_nodes.specs.Nodes.{SlotGiven, SlotOwned}
@@ -109,7 +110,7 @@ invariant-nodes::pass_bucket-loop-j g l =
 
 abbrev pub invariant-nodes::pass_slots-loop-i : goal.invariant-nodes::pass_slots-loop-i
 invariant-nodes::pass_slots-loop-i g l =
-    ((slots : List TrieSlot) → HasSlots l.read_as.shape l.fn.view slots → IsAtSlot l.fn.view slots l.i l.slots) ×
+    ((p : HamtShape) (slots : List TrieSlot) → HasSlots p l.fn.view slots → IsAtSlot l.fn.view slots l.i l.slots) ×
     ((slots : List TrieSlot) → HasSlots l.read_as.shape l.fn.view slots
     → Passing (λ held. SlotOwned g.H.KeyHash.hash_of l.read_as.shape l.acc l.read_as.room l.read_as.key l.read_as.value held l.way) (λ held. SlotGiven g.H.KeyHash.hash_of l.read_as.shape l.acc l.read_as.room l.read_as.key l.read_as.value held l.way) slots l.i
     (g.K.Store.moment l.initial.store) (g.K.Store.moment l.store)) × AreSound g.H.KeyHash.hash_of l.acc (g.K.Store.moment l.store) l.known

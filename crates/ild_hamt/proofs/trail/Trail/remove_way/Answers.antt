@@ -14,20 +14,20 @@ use Rattle.ild_hamt.proofs.trail.Trail.remove_way.Goals as goal
 
 pub returns-clause-removes : goal.returns-clause-removes
 returns-clause-removes g c = λ h k slots es from.
-    let rest = rw c.in-Some.is at c.in_ok-rows.ensures.trie h k slots es from.has from.trail in
+    let rest = rw c.in-Some.is at c.in_ok-rows.ensures.trie h k slots es from in
     removes-some h c.args.self.shape k es _ c.rewrite.result _ (ap is_some (sym (find-along h c.args.self.shape k (length (trail_blocks c.args.self) + 1) 0 es)) ∙ rest.0)
     (c.rewrite.ensures.rewrites h k slots es (without k es) from.has from.trail.root (differs-without k es from.trail.root.order) from.trail.hash
     (rest-state c.args.self.shape h k slots es c.in-Some.rows c.args.self (slot_seen c.few_slot.result) c.new.result.items from.trail rest.1 c.few_slot.ensures.same c.new.ensures.items))
 
 pub returns-in-None-clause-removes : goal.returns-in-None-clause-removes
 returns-in-None-clause-removes g c = λ h k slots es from.
-    let missing = rw c.in-None.is at c.in_ok-rows.ensures.trie h k slots es from.has from.trail in
+    let missing = rw c.in-None.is at c.in_ok-rows.ensures.trie h k slots es from in
     (sym (find-along h c.args.self.shape k (length (trail_blocks c.args.self) + 1) 0 es) ∙ missing, refl)
 
 pub returns-in_err-rows-clause-removes : goal.returns-in_err-rows-clause-removes
 returns-in_err-rows-clause-removes g c = λ h k slots es from.
     let p = err_from_is_err_and c.from_residual.result c.from_residual.ensures.1 in
-    rw (p.1, p.2) (ap is_some (sym (find-along h c.args.self.shape k (length (trail_blocks c.args.self) + 1) 0 es)) ∙ c.in_err-rows.ensures.trie h k slots es from.has from.trail, inl refl)
+    rw (p.1, p.2) (ap is_some (sym (find-along h c.args.self.shape k (length (trail_blocks c.args.self) + 1) 0 es)) ∙ c.in_err-rows.ensures.trie h k slots es from, inl refl)
 
 pub returns-clause-edits : goal.returns-clause-edits
 returns-clause-edits g c = λ h k slots last leads.

@@ -28,14 +28,14 @@ returns-in_err-put-clause-sets g c = λ h k v slots es from stands room.
 pub returns-in_err-slot-clause-sets : goal.returns-in_err-slot-clause-sets
 returns-in_err-slot-clause-sets g c = λ h k v slots es from stands room.
     let p = err_from_is_err_and c.from_residual-in_err-slot.result c.from_residual-in_err-slot.ensures.1 in
-    let rows = rows-put c.args.self.shape h k c.as_str.result.now v slots es c.in_ok-rows.rows c.put.new.self c.args.self from.trail (c.in_ok-rows.ensures.trie h k slots es from.has from.trail) (c.as_str.ensures.same ∙ from.trail.key) (c.in_ok-put.ensures.ok v stands) in
+    let rows = rows-put c.args.self.shape h k c.as_str.result.now v slots es c.in_ok-rows.rows c.put.new.self c.args.self from.trail (c.in_ok-rows.ensures.trie h k slots es from) (c.as_str.ensures.same ∙ from.trail.key) (c.in_ok-put.ensures.ok v stands) in
     rw (p.1, p.2) (end-stopped c.args.self.shape h k v slots es c.put.new.self (put bytewise k v es) c.args.self c.in_err-slot.field-0.0 c.saturating_add-depth.result c.new-plan.result.items c.slot_of.new.plan.items _ from.trail rows
     (let short = from.trail.short in let deep = from.trail.depth in let up = c.saturating_add-depth.ensures in let all = levels_few c.args.self.shape in omega arith) room
     (c.in_err-slot.ensures.plans h (from.trail.hash ∙ ap h (sym from.trail.key)) (others-end c.args.self.shape h k v slots es c.args.self c.put.new.self from.trail rows)))
 
 pub returns-clause-sets : goal.returns-clause-sets
 returns-clause-sets g c = λ h k v slots es from stands room.
-    let rows = rows-put c.args.self.shape h k c.as_str.result.now v slots es c.in_ok-rows.rows c.put.new.self c.args.self from.trail (c.in_ok-rows.ensures.trie h k slots es from.has from.trail) (c.as_str.ensures.same ∙ from.trail.key) (c.in_ok-put.ensures.ok v stands) in
+    let rows = rows-put c.args.self.shape h k c.as_str.result.now v slots es c.in_ok-rows.rows c.put.new.self c.args.self from.trail (c.in_ok-rows.ensures.trie h k slots es from) (c.as_str.ensures.same ∙ from.trail.key) (c.in_ok-put.ensures.ok v stands) in
     c.rewrite.ensures.rewrites h k slots es (put bytewise k v es) from.has from.trail.root (differs-put k v es from.trail.root.order) from.trail.hash
     (end-state c.args.self.shape h k v slots es c.put.new.self c.args.self c.in_ok-slot.slot c.saturating_add-depth.result c.new-plan.result.items c.slot_of.new.plan.items from.trail rows
     (let short = from.trail.short in let deep = from.trail.depth in let up = c.saturating_add-depth.ensures in let all = levels_few c.args.self.shape in omega arith) c.new-plan.ensures.items

@@ -1,4 +1,4 @@
-use Rattle.std.proofs.Common.{◌≡◌, Bool, true, false, cond, refl, arith}
+use Rattle.std.proofs.Common.{◌≡◌, Bool, true, false, cond, refl}
 use mir.Val.{bool_byte}
 use Rattle.ild_node_slots.proofs.Around.{around-slot}
 use Rattle.ild_node_slots.proofs.view.NodeView.around.Goals as goal

@@ -1,4 +1,4 @@
-use Rattle.std.proofs.Common.{sym, ◌∙◌, arith}
+use Rattle.std.proofs.Common.{sym, ◌∙◌}
 use Rattle.ild_node_slots.proofs.InSlot.{slot-off, slot-empty, slot-on, slot-missing}
 use Rattle.ild_node_slots.proofs.view.NodeView.slot.Goals as goal
 
