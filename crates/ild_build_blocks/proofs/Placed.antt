@@ -4,7 +4,7 @@ use Rattle.std.specs.Prelude.{Contains, is_some, slice_get, slice_index_or}
 use Rattle.std.specs.Option.{option_map_or}
 use Rattle.std.specs.Cmp.Lexicographic.{same_text as text_same}
 use Rattle.std.proofs.lemmas.Bool.{and_parts}
-use Rattle.ild_edges.specs.Among.{IsIn}
+use Rattle.ild_typed.specs.Among.{AreAmong}
 use Rattle.ild_data.specs.Data.{Data}
 use Rattle.ild_data.specs.Key.{same_text}
 use Rattle.ild_data.specs.ByteOrder.{in_byte_order}
@@ -28,7 +28,7 @@ use Rattle.ild_typed_places.specs.Parts.{LieIn}
 use Rattle.ild_typed_places.specs.Places.{Place, Places, nowhere, joined, at_key, places_beneath, places_over, each_place, map_places, places_in, places_in_pairs, places_in_fields, tops}
 use Rattle.ild_typed_places.proofs.Linked.{each_joined}
 use Rattle.ild_typed_places.proofs.Parted.{elements, entries, members}
-use Rattle.ild_bulk_places.specs.Following.{AreAmong, FollowsIn, HasPlaceOver}
+use Rattle.ild_bulk_places.specs.Following.{FollowsIn, HasPlaceOver}
 use Rattle.ild_build_pass.specs.Placed.{PlacedIn, are_among, has_place_over, hamt_places, is_among, over_children}
 use Rattle.ild_build_pass.specs.Weights.{Weight, hamt_weight, weigh, weigh_values, weigh_pairs, weigh_fields}
 
@@ -38,16 +38,16 @@ or_true : (a b : Bool) → (a || b) ≡ true → (a ≡ true) ⊎ (b ≡ true)
 or_true true b e = inl refl
 or_true false b e = inr e
 
-is_from : (b : List ℕ) (cs : List (List ℕ)) → is_among b cs ≡ true → IsIn b cs
+contains_more : {X : Type 0} (y : X) (ys : List X) (x : X) → Contains ys x → Contains (y ∷ ys) x
+contains_more y ys x here = (suc here.0, (let lt = here.1 in omega (arith, lt)), here.2)
+
+is_from : (b : List ℕ) (cs : List (List ℕ)) → is_among b cs ≡ true → Contains cs b
 is_from b [] e = absurd cc
-is_from b (c ∷ cs) e = ⊎_elim (λ x. inl (text_same b c (sym x))) (λ x. inr (is_from b cs x)) (or_true (same_text b c) (is_among b cs) e)
+is_from b (c ∷ cs) e = ⊎_elim (λ x. (zero, omega arith, sym (text_same b c (sym x)))) (λ x. contains_more c cs b (is_from b cs x)) (or_true (same_text b c) (is_among b cs) e)
 
 are_from : (bs before : List (List ℕ)) → are_among bs before ≡ true → AreAmong bs before
 are_from [] before e = tt
 are_from (b ∷ bs) before e = let x = and_parts (is_among b before) (are_among bs before) e in (is_from b before x.0, are_from bs before x.1)
-
-contains_more : {X : Type 0} (y : X) (ys : List X) (x : X) → Contains ys x → Contains (y ∷ ys) x
-contains_more y ys x here = (suc here.0, (let lt = here.1 in omega (arith, lt)), here.2)
 
 contains_right : {X : Type 0} (xs ys : List X) (x : X) → Contains ys x → Contains (xs ++ ys) x
 contains_right [] ys x here = here

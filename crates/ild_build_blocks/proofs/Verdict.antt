@@ -17,9 +17,8 @@ use Rattle.ild_bulk_places.specs.Following.{FollowsIn}
 use Rattle.ild_build_blocks.proofs.Placed.{placed_follows}
 use Rattle.ild_typed.specs.Hamt.{whole}
 use Rattle.ild_typed.specs.Fits.{Fits}
-use Rattle.ild_typed.specs.Judged.{breaks_delimiter, exhausts, has_hole}
+use Rattle.ild_typed.specs.Judged.{breaks_delimiter, exhausts, has_hole, IsTooLong}
 use Rattle.ild_typed.specs.Typed.{Typed}
-use Rattle.ild_build_blocks.specs.Builds.{IsTooLong}
 use Rattle.ild_build_pass.specs.Fitting.{FitsIn}
 use Rattle.ild_build_leaf.specs.Made.{made}
 use Rattle.ild_build_blocks.specs.inside.Planned.{IsPlanned}

@@ -1,6 +1,6 @@
 -- What building the blocks of a typed value gives, and what it leaves in a store (IPLD Schemas, "Representation Strategies"; DAG-CBOR;
 -- IPLD HashMap).
-use Rattle.std.specs.Prelude.{◌≡◌, ◌⊎◌, ℕ, ◌+◌, ◌≤◌, ◌<◌, true, List, [], ◌∷◌, length, map, Some, Result, Ok, Err, Contains}
+use Rattle.std.specs.Prelude.{◌≡◌, ◌⊎◌, ℕ, ◌+◌, ◌≤◌, true, List, [], ◌∷◌, length, map, Some, Result, Ok, Err, Contains}
 use Rattle.std.specs.List.{AllByRecursion}
 use Rattle.ild_data.specs.Data.{Data}
 use Rattle.ild_data.specs.Limits.{longest_block}
@@ -19,7 +19,7 @@ use Rattle.ild_typed.specs.Blocks.{nodes}
 use Rattle.ild_typed_places.specs.Places.{places_in}
 use Rattle.ild_bulk_places.specs.Leaving.{AddsPlaced}
 use Rattle.ild_typed.specs.Hamt.{whole}
-use Rattle.ild_typed.specs.Judged.{exhausts}
+use Rattle.ild_typed.specs.Judged.{exhausts, IsTooLong}
 use Rattle.ild_typed.specs.Represented.{represented}
 use Rattle.ild_build_blocks.specs.declared.fault.BuildFault.{BuildFault}
 use Rattle.ild_build_blocks.specs.declared.fault.BuildFault.TheVariants as B
@@ -35,14 +35,6 @@ pub record HasBlocks (h : List ℕ → List ℕ) (rows : List Row) (slot : Slot)
   pub tree : Data
   pub represented : represented (whole h) rows slot v ≡ Some tree
   pub sized : AllByRecursion (λ b. length b ≤ longest_block) (blocks_of h rows slot v tree)
-
--- it has a representation, and one of its blocks is too long
-pub record IsTooLong (h : List ℕ → List ℕ) (rows : List Row) (slot : Slot) (v : Value) : Type 0 where
-  pub tree : Data
-  pub represented : represented (whole h) rows slot v ≡ Some tree
-  pub block : List ℕ
-  pub among : Contains (blocks_of h rows slot v tree) block
-  pub long : longest_block < length block
 
 -- ---- what a store holds
 

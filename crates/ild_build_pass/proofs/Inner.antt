@@ -2,11 +2,14 @@
 use Rattle.std.proofs.Common.{◌≡◌, inl, inr, ℕ, ◌≤◌, Bool, true, false, cond, is_some, List, [], ◌∷◌, ◌++◌, Some, refl, sym, ap, ◌∙◌, subst, arith}
 use Rattle.std.specs.List.{AllByRecursion, sum_by}
 use Rattle.std.specs.Option.{option_map_or}
+use Rattle.std.specs.Prelude.{Contains}
+use Rattle.std.proofs.lemmas.List.Elements.{Contains-append_right}
 use Rattle.std.proofs.lemmas.List.Sums.{sum_by-cons}
 use Rattle.std.specs.Cmp.Lexicographic.{same_text as text_same, nat_list_eq_equiv}
 use Rattle.ild_bulk.specs.Planned.{planned}
 use Rattle.ild_edges.specs.Among.{IsIn}
-use Rattle.ild_edges.proofs.Among.{IsIn-right}
+use Rattle.ild_edges.proofs.Among.{IsIn-contains}
+use Rattle.ild_typed.specs.Among.{AreAmong}
 use Rattle.ild_data.specs.ByteOrder.{in_byte_order}
 use Rattle.ild_data.specs.Data.{Data}
 use Rattle.ild_data.specs.Key.{same_text}
@@ -25,7 +28,7 @@ use Rattle.ild_typed_places.specs.Places.{Places, nowhere, place, at_key, blocks
 use Rattle.ild_typed_places.proofs.Keyed.{InEach, at_keys}
 use Rattle.ild_typed_places.proofs.Listing.{all_from}
 use Rattle.ild_typed_places.proofs.Values.{alike}
-use Rattle.ild_bulk_places.specs.Following.{AreAmong, FollowsIn}
+use Rattle.ild_bulk_places.specs.Following.{FollowsIn}
 use Rattle.ild_bulk_places.proofs.Ordering.{plans}
 use Rattle.ild_build_pass.specs.Placed.{PlacedIn, hamt_places}
 use Rattle.ild_build_pass.specs.Weights.{beneath, entries_weight}
@@ -53,16 +56,16 @@ found b (x ∷ xs) h = by (λ k. found b xs k) (same_text b x) refl
     by more true e = inl (text_same b x (sym e))
     by more false e = let none : is_block b x ≡ 0 = ap (λ c. cond c 1 0) e in inr (more (omega (arith, h, none, sum_by-cons {X = List ℕ} (is_block b) x xs)))
 
-each_among : (xs ys : List (List ℕ)) → ((f : List ℕ → ℕ) → sum_by f xs ≡ sum_by f ys) → AllByRecursion (λ b. IsIn b ys) xs
+each_among : (xs ys : List (List ℕ)) → ((f : List ℕ → ℕ) → sum_by f xs ≡ sum_by f ys) → AreAmong xs ys
 each_among xs ys same = by xs (λ b is. found b ys (let one = counted b xs is in let e = same (is_block b) in omega (arith, one, e)))
   where
-    by : (zs : List (List ℕ)) → ((b : List ℕ) → IsIn b zs → IsIn b ys) → AllByRecursion (λ b. IsIn b ys) zs
+    by : (zs : List (List ℕ)) → ((b : List ℕ) → IsIn b zs → IsIn b ys) → AreAmong zs ys
     by [] f = tt
-    by (z ∷ zs) f = (f z (inl refl), by zs (λ b is. f b (inr is)))
+    by (z ∷ zs) f = (IsIn-contains z ys (f z (inl refl)), by zs (λ b is. f b (inr is)))
 
 all_right : (bs before after : List (List ℕ)) → AreAmong bs after → AreAmong bs (before ++ after)
 all_right [] before after all = tt
-all_right (b ∷ bs) before after all = (IsIn-right b before after all.0, all_right bs before after all.1)
+all_right (b ∷ bs) before after all = (Contains-append_right before after b all.0, all_right bs before after all.1)
 
 tops_all : (P : List ℕ → Type 0) (ps : Places) → AllByRecursion P (blocks_in ps) → AllByRecursion P (tops ps)
 tops_all P nowhere all = tt
@@ -83,11 +86,11 @@ module _ (h : List ℕ → List ℕ) (rows : List Row) (u : Slot) where
       let under : Places = places_beneath (at_key ts) h p (trie_levels p) 0 (in_byte_order es) in
       let same : hamt_places h p rows u ps ≡ under
       = ap (λ o. option_map_or (λ fs. cond (is_some (trie h p fs 0)) (places_beneath (at_key ts) h p (trie_levels p) 0 (in_byte_order fs)) flat) o flat) are ∙ ap (λ o. cond (is_some o) under flat) is in
-      let inside : AllByRecursion (λ b. IsIn b (before ++ added)) (nodes_of_pairs h rows u ps)
+      let inside : AreAmong (nodes_of_pairs h rows u ps) (before ++ added)
       = all_right (nodes_of_pairs h rows u ps) before added (each_among (nodes_of_pairs h rows u ps) added (λ f. pairs_nodes h rows f u ps ∙ pairs_weigh rows (beneath h rows f) u ps ∙ sym (sums f))) in
-      let each = in_pairs (λ b. IsIn b (before ++ added)) ps inside in
+      let each = in_pairs (Contains (before ++ added)) ps inside in
       let ready = all_from (λ (e : List ℕ × Data). AreAmong (tops (at_key ts e.0)) (before ++ added))
-      (λ e. tops_all (λ b. IsIn b (before ++ added)) (at_key ts e.0) (at_keys (λ b. IsIn b (before ++ added)) ts each e.0)) (in_byte_order es) in
+      (λ e. tops_all (Contains (before ++ added)) (at_key ts e.0) (at_keys (Contains (before ++ added)) ts each e.0)) (in_byte_order es) in
       follows_placed h rows p u ps (before ++ added) bs
       (subst (λ ps'. FollowsIn ps' (before ++ added) bs) (sym same)
       (subst (λ xs. FollowsIn under (before ++ added) xs) (sym all) (plans (at_key ts) h p (trie_levels p) 0 (in_byte_order es) (before ++ added) ready)))

@@ -3,6 +3,8 @@ use Rattle.std.proofs.Common.{◌≡◌, inl, inr, ℕ, ◌≤◌, Bool, true, f
 use Rattle.std.specs.List.{AllByRecursion}
 use Rattle.std.specs.Cmp.Lexicographic.{nat_list_eq_equiv}
 use Rattle.ild_edges.specs.Among.{IsIn}
+use Rattle.ild_edges.proofs.Among.{IsIn-of}
+use Rattle.ild_typed.specs.Among.{AreAmong}
 use Rattle.ild_data.specs.declared.hamt_shape.HamtShape.{HamtShape}
 use Rattle.ild_data.specs.Key.{same_text}
 use Rattle.ild_schema.specs.declared.number.Slot.{Slot}
@@ -10,7 +12,7 @@ use Rattle.ild_schema.specs.declared.row.Row.{Row}
 use Rattle.ild_schema.specs.Value.{Pairs}
 use Rattle.ild_typed_places.specs.Places.{Place, each_place, tops}
 use Rattle.ild_typed_places.proofs.Listing.{all_contained}
-use Rattle.ild_bulk_places.specs.Following.{AreAmong, FollowsIn}
+use Rattle.ild_bulk_places.specs.Following.{FollowsIn}
 use Rattle.ild_build_pass.specs.Placed.{PlacedIn, are_among, has_place_over, hamt_places, is_among, over_children}
 use Rattle.ild_build_pass.specs.Weights.{Weight}
 
@@ -43,7 +45,7 @@ module _ (h : List ℕ → List ℕ) (rows : List Row) where
 
   among_are : (bs before : List (List ℕ)) → AreAmong bs before → are_among bs before ≡ true
   among_are [] before all = refl
-  among_are (b ∷ bs) before all = both_and (is_among b before) (are_among bs before) (among_is b before all.0) (among_are bs before all.1)
+  among_are (b ∷ bs) before all = both_and (is_among b before) (are_among bs before) (among_is b before (IsIn-of b before all.0)) (among_are bs before all.1)
 
   -- a place of these passes
   passes : (before : List (List ℕ)) (b : List ℕ) (ps : List Place) → AllByRecursion (λ p. p.0 ≡ b → AreAmong (tops p.1) before → has_place_over ps before b ≡ true) ps

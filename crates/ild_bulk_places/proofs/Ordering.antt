@@ -1,10 +1,9 @@
 -- The plan of a HAMT follows its places.
-use Rattle.std.proofs.Common.{◌≡◌, inl, ℕ, zero, suc, ◌+◌, ◌^◌, ◌==◌, ◌<◌, nat_le, Bool, true, false, List, [], ◌∷◌, ◌++◌, length, flat_map, Option, Some, None, refl, sym, ap, subst, arith, append_assoc, append-nil}
+use Rattle.std.proofs.Common.{◌≡◌, ℕ, zero, suc, ◌+◌, ◌^◌, ◌==◌, ◌<◌, nat_le, Bool, true, false, List, [], ◌∷◌, ◌++◌, length, flat_map, Option, Some, None, refl, sym, ap, subst, arith, append_assoc, append-nil}
 use Rattle.std.specs.Prelude.{Contains, slice_index_or}
 use Rattle.std.specs.List.{AllByRecursion, range_with_len}
 use Rattle.ild_bulk.specs.Planned.{planned, slot_plan}
-use Rattle.ild_edges.specs.Among.{IsIn}
-use Rattle.ild_edges.proofs.Among.{IsIn-left, IsIn-right}
+use Rattle.ild_typed.specs.Among.{AreAmong}
 use Rattle.ild_data.specs.Data.{Data}
 use Rattle.ild_data.specs.Spell.{spell}
 use Rattle.ild_data.specs.Trie.{part, node_of, at_depth}
@@ -15,7 +14,7 @@ use Rattle.ild_typed.proofs.Treed.{all_append}
 use Rattle.ild_typed.proofs.TreeNodes.{part_in}
 use Rattle.ild_typed_places.specs.Places.{Places, nowhere, place, Place, joined, places_over, tops, each_place, node_place, bucket_or_node, places_beneath}
 use Rattle.ild_typed_places.proofs.Linked.{each_joined}
-use Rattle.ild_bulk_places.specs.Following.{AreAmong, FollowsIn, PlansFollowPlaces}
+use Rattle.ild_bulk_places.specs.Following.{FollowsIn, PlansFollowPlaces}
 
 -- ---- members of lists
 
@@ -34,7 +33,7 @@ contains_left (z ∷ xs) ys x here = by (λ more. contains_left xs ys x more) he
   by later (suc k) lt is = contains_more z (xs ++ ys) x (later (k, omega (arith, lt), is))
 
 are_more : (bs before after : List (List ℕ)) → AreAmong bs before → AreAmong bs (before ++ after)
-are_more bs before after all = all_more (λ b. IsIn b before) (λ b. IsIn b (before ++ after)) (λ b is. IsIn-left b before after is) bs all
+are_more bs before after all = all_more (Contains before) (Contains (before ++ after)) (λ b is. contains_left before after b is) bs all
 
 -- ---- places among others
 
@@ -52,7 +51,7 @@ tops_joined nowhere qs = refl
 tops_joined (place b beneath ps) qs = ap (λ (bs : List (List ℕ)). b ∷ bs) (tops_joined ps qs)
 
 both_tops : (bs : List (List ℕ)) (ps qs : Places) → AreAmong (tops ps) bs → AreAmong (tops qs) bs → AreAmong (tops (joined ps qs)) bs
-both_tops bs ps qs a b = subst (λ (ts : List (List ℕ)). AreAmong ts bs) (sym (tops_joined ps qs)) (all_append (λ c. IsIn c bs) (tops ps) (tops qs) a b)
+both_tops bs ps qs a b = subst (λ (ts : List (List ℕ)). AreAmong ts bs) (sym (tops_joined ps qs)) (all_append (Contains bs) (tops ps) (tops qs) a b)
 
 over_tops : {X : Type 0} (bs : List (List ℕ)) (f : X → Places) (xs : List X) → AllByRecursion (λ x. AreAmong (tops (f x)) bs) xs → AreAmong (tops (places_over f xs)) bs
 over_tops bs f [] all = tt
@@ -87,7 +86,7 @@ module _ (inner : List ℕ → Places) (home : Places) where
     with_node (Some n) before bs qs x = record {
       follows = λ lies. follows_both home before bs (spell n ∷ []) (x.follows (λ q here. lies q (contains_more (spell n, qs) (each_place qs ++ []) q (contains_left (each_place qs) [] q here))))
           (record { at = (spell n, qs); among = lies (spell n, qs) (zero, omega arith, refl); is = refl; children = x.there }, tt);
-      there = (IsIn-right (spell n) before (bs ++ spell n ∷ []) (IsIn-right (spell n) bs (spell n ∷ []) (inl refl)), tt);
+      there = (contains_right before (bs ++ spell n ∷ []) (spell n) (contains_right bs (spell n ∷ []) (spell n) (zero, omega arith, refl)), tt);
     }
 
     of_slot : (es : List (List ℕ × Data)) (b : Bool) (before : List (List ℕ)) → Ready before es → Follow before (plan es) (ps es)

@@ -1,5 +1,6 @@
 -- Puts of blocks that stand behind their children leave each block that came with its children held.
 use Rattle.std.proofs.Common.{◌≡◌, inl, inr, ⊎_elim, ℕ, zero, suc, ◌+◌, List, [], ◌∷◌, ◌++◌, take, Some, sym, ◌∙◌, subst, arith}
+use Rattle.std.specs.Prelude.{Contains}
 use Rattle.ild_edges.specs.Gained.{AreHeld}
 use Rattle.ild_edges.specs.Among.{IsIn}
 use Rattle.ild_edges.proofs.Among.{IsIn-of}
@@ -23,7 +24,7 @@ module _ (ps : Places) (now : List (List ℕ)) where
     at = x.at;
     among = x.among;
     is = x.is ∙ sym same;
-    children = all_more (λ d. IsIn d before) (λ d. block_at now (id_of d) ≡ Some d) (λ d is. held_among before now d held is) (tops x.at.1) x.children;
+    children = all_more (Contains before) (λ d. block_at now (id_of d) ≡ Some d) (λ d is. held_among before now d held (IsIn-of d before is)) (tops x.at.1) x.children;
   }
 
   -- each of the first blocks, of which all but the last are held

@@ -2,6 +2,7 @@
 use Rattle.std.proofs.Common.{◌≡◌, ◌⊎◌, inl, inr, ⊎_elim, ℕ, ◌+◌, Bool, true, List, ◌∷◌, ◌++◌, Some, sym, ap, ◌∙◌, subst, arith}
 use Rattle.std.specs.Prelude.{Result, Ok, Err, option_and_then}
 use Rattle.ild_edges.specs.Gained.{AreIdsGiven}
+use Rattle.ild_typed.specs.Among.{AreAmong}
 use Rattle.ild_data.specs.Data.{Data}
 use Rattle.ild_data.specs.Limits.{deepest}
 use Rattle.ild_data.specs.Spell.{spell}
@@ -25,7 +26,6 @@ use Rattle.ild_view.specs.View.{slot_of, table_of}
 use Rattle.ild_view.specs.declared.view.View.{View}
 use Rattle.ild_open_held.specs.Held.{IsHeld}
 use Rattle.ild_path_held.proofs.Holding.{held_stays}
-use Rattle.ild_path_nodes.specs.NodeLaws.{AreAmong}
 use Rattle.ild_path_within.proofs.Splitting.{paths_split, ways_split}
 use Rattle.ild_path_reroot.specs.Reroots.{AddsNodes}
 use Rattle.ild_path_reroot.proofs.Coming.{IsPartOf, came_whole, whole_stays}

@@ -4,6 +4,7 @@ use Rattle.std.specs.Prelude.{IfOk, Result, Ok, Err}
 use Rattle.std.specs.List.{AllByRecursion}
 use Rattle.ild_edges.specs.Gained.{AreIdsGiven}
 use Rattle.ild_cbor.specs.declared.node.Node.{Node}
+use Rattle.ild_typed.specs.Among.{AreAmong}
 use Rattle.ild_data.specs.Data.{Data}
 use Rattle.ild_data.specs.Limits.{deepest, longest_block}
 use Rattle.ild_data.specs.Spell.{spell}
@@ -41,7 +42,6 @@ use Rattle.ild_typed_fronts.proofs.Representing.{fronts_are_fronts, fronts_repre
 use Rattle.ild_path_way.specs.Way.{nodes_met}
 use Rattle.ild_path_way.proofs.Splitting.{nodes_split, none_in_one_block}
 use Rattle.ild_path_way.proofs.Staying.{edits_stay}
-use Rattle.ild_path_nodes.specs.NodeLaws.{AreAmong}
 use Rattle.ild_path_nodes.proofs.Changing.{nodes_of_parts}
 use Rattle.ild_path_held.specs.HeldEdits.{HasNodes, room_at}
 use Rattle.ild_path_held.proofs.Holding.{held_edits, held_parts}

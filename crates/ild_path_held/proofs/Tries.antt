@@ -7,6 +7,7 @@ use Rattle.std.specs.Ordering.{match_ordering}
 use Rattle.std.specs.declared.cmp.Ordering.{Ordering}
 use Rattle.std.specs.declared.cmp.Ordering.TheVariants.{Less, Equal, Greater}
 use Rattle.std.proofs.lemmas.Option.{same_Some}
+use Rattle.ild_typed.specs.Among.{AreAmong}
 use Rattle.ild_data.specs.ByteOrder.{bytewise, in_byte_order, without as remove}
 use Rattle.ild_data.specs.Data.{Data}
 use Rattle.ild_data.specs.Key.{Rises, key_cmp, same_text, value_at, put, without}
@@ -50,7 +51,7 @@ use Rattle.ild_open_held.proofs.Hamts.{hamt_parts, hamt_kept}
 use Rattle.ild_open_held.proofs.Parting.{KeyFits}
 use Rattle.ild_bulk_walker.specs.Trees.{HoldsBelow}
 use Rattle.ild_typed_fronts.proofs.Pathing.{pairs_back}
-use Rattle.ild_path_nodes.specs.NodeLaws.{AreAmong, IsHamt}
+use Rattle.ild_path_nodes.specs.NodeLaws.{IsHamt}
 use Rattle.ild_path_nodes.proofs.Changing.{all_itself, to_entries, from_entries}
 use Rattle.ild_path_nodes.proofs.Having.{EntryHas}
 use Rattle.ild_path_held.specs.Hamts.{IsValueOf}

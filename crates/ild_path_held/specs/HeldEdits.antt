@@ -3,6 +3,7 @@ use Rattle.std.specs.Prelude.{◌≡◌, ℕ, ◌+◌, ◌≤◌, Bool, true, Is
 use Rattle.std.specs.FinMap.{put as insert}
 use Rattle.std.specs.List.{AllByRecursion}
 use Rattle.std.specs.Option.{option_map_or}
+use Rattle.ild_typed.specs.Among.{AreAmong}
 use Rattle.ild_data.specs.ByteOrder.{bytewise, without as remove}
 use Rattle.ild_data.specs.Data.{Data}
 use Rattle.ild_data.specs.Key.{put, without}
@@ -29,7 +30,7 @@ use Rattle.ild_path_within.specs.Within.{with_part}
 use Rattle.ild_typed_fronts.specs.Front.{in_one_block}
 use Rattle.ild_data.specs.TrieBlocks.{nodes_beneath}
 use Rattle.ild_data.specs.declared.hamt_shape.HamtShape.{HamtShape}
-use Rattle.ild_path_nodes.specs.NodeLaws.{AreAmong, IsHamt}
+use Rattle.ild_path_nodes.specs.NodeLaws.{IsHamt}
 use Rattle.ild_typed.specs.Blocks.{nodes}
 use Rattle.ild_path_held.specs.Hamts.{IsTrieIn}
 

@@ -6,6 +6,7 @@ use Rattle.std.proofs.lemmas.Option.{same_Some}
 use Rattle.std.proofs.lemmas.Bool.{lt-ltb}
 use Rattle.ild_cbor.specs.Nodes.{HasData}
 use Rattle.ild_cbor.specs.declared.node.Node.{Node}
+use Rattle.ild_typed.specs.Among.{AreAmong}
 use Rattle.ild_data.specs.ByteOrder.{without as remove}
 use Rattle.ild_data.specs.Data.{Data}
 use Rattle.ild_data.specs.Limits.{longest_block}
@@ -44,7 +45,6 @@ use Rattle.ild_path_within.proofs.Splitting.{parts_are_set}
 use Rattle.ild_typed_fronts.specs.Front.{front, front_in, is_hamt, root_of, root_or_map, fronts_of_pairs}
 use Rattle.ild_typed_fronts.proofs.Pathing.{paths_of_fronts, wholes_of_fronts}
 use Rattle.ild_typed_fronts.proofs.Representing.{fronts_represent, fronts_are_fronts}
-use Rattle.ild_path_nodes.specs.NodeLaws.{AreAmong}
 use Rattle.ild_path_nodes.proofs.Changing.{nodes_of_parts}
 use Rattle.ild_path_held.specs.HeldEdits.{room_at}
 use Rattle.ild_path_held.proofs.Holding.{held_parts, held_stays, held_wholes}

@@ -5,6 +5,7 @@ use Rattle.std.specs.List.{AllByRecursion}
 use Rattle.std.specs.Option.{option_map_or}
 use Rattle.std.proofs.lemmas.List.Elements.{All-contains_itself, recursion_from_All}
 use Rattle.std.proofs.lemmas.Option.{same_Some, none-some}
+use Rattle.ild_typed.specs.Among.{AreAmong}
 use Rattle.ild_data.specs.Key.{put, without}
 use Rattle.ild_schema.specs.declared.def.MapForm.TheVariants as MF
 use Rattle.ild_schema.specs.declared.def.TypeDef.{TypeDef}
@@ -40,7 +41,7 @@ use Rattle.ild_path_within.specs.Within.{with_part}
 use Rattle.ild_path_within.proofs.Splitting.{changed_with, first_of_path}
 use Rattle.ild_typed_fronts.specs.Front.{stands_as_root, is_root, in_one_block}
 use Rattle.ild_typed_fronts.proofs.Pathing.{holder_back, pairs_back, set_root, insert_root, delete_root, first_plain, rest_plain}
-use Rattle.ild_path_nodes.specs.NodeLaws.{AreAmong, NodesOfParts, NodesOfWholes, NodesOfEdits, NodesOfHamts, IsHamt, nodes_in, nodes_brought, own_nodes}
+use Rattle.ild_path_nodes.specs.NodeLaws.{NodesOfParts, NodesOfWholes, NodesOfEdits, NodesOfHamts, IsHamt, nodes_in, nodes_brought, own_nodes}
 use Rattle.ild_path_nodes.proofs.Having.{N, EntryHas, PartsHave, of_map, pairs_each, each_pairs, to_holder, from_holder, own_plain, part_has, set_has, insert_has, delete_has}
 
 module _ (P : List ℕ → Type 0) (h : List ℕ → List ℕ) (rows : List Row) (is_key : ℕ → List ℕ → Bool) (schema : IsSchema rows) (keys : TestsKeys rows is_key) where

@@ -1,7 +1,7 @@
 -- The laws of the nodes of HAMTs in values: which there are in a part, and in what an edit makes.
-use Rattle.std.specs.Prelude.{◌≡◌, ℕ, Bool, true, List, [], ◌++◌, Contains, Option, Some, Ok}
-use Rattle.std.specs.List.{AllByRecursion}
+use Rattle.std.specs.Prelude.{◌≡◌, ℕ, Bool, true, List, [], ◌++◌, Option, Some, Ok}
 use Rattle.std.specs.Option.{option_map_or}
+use Rattle.ild_typed.specs.Among.{AreAmong}
 use Rattle.ild_data.specs.Key.{put, without}
 use Rattle.ild_data.specs.declared.hamt_shape.HamtShape.{HamtShape}
 use Rattle.ild_schema.specs.declared.def.MapForm.TheVariants as MF
@@ -24,10 +24,6 @@ use Rattle.ild_typed_fronts.specs.Front.{in_one_block}
 
 abbrev pub nodes_in : (List ℕ → List ℕ) → List Row → InSlot → List (List ℕ)
 nodes_in h rows p = nodes h rows p.0 p.1
-
--- each of these blocks is among those
-abbrev pub AreAmong : List (List ℕ) → List (List ℕ) → Type 0
-AreAmong bs held = AllByRecursion (Contains held) bs
 
 -- the nodes of a part are nodes of the whole
 abbrev pub NodesOfParts : Type 0

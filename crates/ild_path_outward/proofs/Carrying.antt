@@ -7,6 +7,7 @@ use Rattle.std.specs.List.{AllByRecursion}
 use Rattle.std.proofs.lemmas.Bool.{ltb-true}
 use Rattle.std.proofs.lemmas.Option.{same_Some}
 use Rattle.ild_edges.specs.Gained.{AreIdsGiven}
+use Rattle.ild_typed.specs.Among.{AreAmong}
 use Rattle.ild_data.specs.ByteOrder.{bytewise}
 use Rattle.ild_data.specs.Data.{Data}
 use Rattle.ild_data.specs.Limits.{longest_block}
@@ -35,7 +36,6 @@ use Rattle.ild_open_held.specs.Held.{IsHeld, IsHeldBlock}
 use Rattle.ild_path_within.specs.Within.{with_part}
 use Rattle.ild_path_within.proofs.Splitting.{parts_of_parts, paths_split, ways_split}
 use Rattle.ild_typed_fronts.specs.Front.{front}
-use Rattle.ild_path_nodes.specs.NodeLaws.{AreAmong}
 use Rattle.ild_path_nodes.proofs.Changing.{nodes_of_parts}
 use Rattle.ild_path_held.specs.HeldEdits.{room_at}
 use Rattle.ild_path_held.proofs.Holding.{held_parts, held_stays}

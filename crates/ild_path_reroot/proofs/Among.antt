@@ -2,6 +2,7 @@
 use Rattle.std.proofs.Common.{◌≡◌, inl, inr, ⊎_elim, ℕ, ◌≤◌, Bool, true, false, ◌||◌, List, [], ◌∷◌, ◌++◌, length, refl, sym, ap, ◌∙◌, subst, arith, pos, codes}
 use Rattle.std.proofs.lemmas.Bool.{or_cases, ltb-false}
 use Rattle.std.proofs.lemmas.List.{length-append}
+use Rattle.ild_typed.specs.Among.{AreAmong}
 use Rattle.ild_data.specs.Data.{Data, integer, members_of}
 use Rattle.ild_data.specs.Limits.{longest_block}
 use Rattle.ild_data.specs.Spell.{head, spell, spell_members, spell_text}
@@ -10,7 +11,6 @@ use Rattle.ild_typed.specs.Hamt.{root_map}
 use Rattle.ild_bulk.specs.Build.{any_long, is_long}
 use Rattle.ild_edges.specs.Among.{IsIn}
 use Rattle.ild_edges.proofs.Among.{IsIn-of}
-use Rattle.ild_path_nodes.specs.NodeLaws.{AreAmong}
 
 pub among_of : (b : List ℕ) (bs held : List (List ℕ)) → AreAmong bs held → IsIn b bs → IsIn b held
 among_of b [] held all is = absurd is

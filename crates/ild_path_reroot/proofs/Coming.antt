@@ -1,11 +1,12 @@
 -- What came as a node of a part came as one of the whole, and stays so.
 use Rattle.std.proofs.Common.{◌≡◌, ℕ, inl, inr, ⊎_elim, List, Option, Some, None, refl, sym, subst}
 use Rattle.std.specs.Prelude.{IsSome}
+use Rattle.ild_typed.specs.Among.{AreAmong}
 use Rattle.ild_edges.specs.Store.{Keeps, block_at}
 use Rattle.ild_schema.specs.declared.row.Row.{Row}
 use Rattle.ild_typed.specs.At.{InSlot, at}
 use Rattle.ild_typed.proofs.Rooms.{all_more}
-use Rattle.ild_path_nodes.specs.NodeLaws.{AreAmong, nodes_in}
+use Rattle.ild_path_nodes.specs.NodeLaws.{nodes_in}
 use Rattle.ild_path_places.proofs.Along.{children_of_parts}
 use Rattle.ild_script_session.specs.Step.{IsWhole}
 use Rattle.ild_path_reroot.specs.Reroots.{AddsNodes, NodeCame}

@@ -1,13 +1,12 @@
 -- The block of a value, by its steps.
-use Rattle.std.proofs.Common.{append-nil, Result, ◌≡◌, ◌⊎◌, ℕ, ◌<◌, ◌≤◌, List, ◌∷◌, true, false, Ok, Err, Some, None, refl, sym, ap, ◌∙◌, subst, inl, inr, arith}
-use Rattle.std.specs.Prelude.{length, Contains}
+use Rattle.std.proofs.Common.{Result, ◌≡◌, ◌⊎◌, ℕ, ◌<◌, ◌≤◌, List, true, false, Ok, Err, Some, None, refl, sym, ◌∙◌, subst, inl, inr, arith}
+use Rattle.std.specs.Prelude.{length}
 use Rattle.std.specs.List.{AllByRecursion}
 use Rattle.ild_build.specs.IsJudged.{IsJudged}
 use Rattle.ild_build.specs.declared.judgement.Judged.{Judged}
 use Rattle.ild_build.specs.declared.judgement.Judged.TheVariants as J
 use Rattle.ild_data.specs.Data.{Data}
 use Rattle.ild_data.specs.Limits.{longest_block, deepest}
-use Rattle.ild_data.specs.Spell.{spell}
 use Rattle.ild_json.specs.Reading.{json_read}
 use Rattle.ild_json.specs.declared.error.JsonErr.{JsonErr}
 use Rattle.ild_json.specs.declared.error.JsonErr.TheVariants as JE
@@ -18,9 +17,8 @@ use Rattle.ild_schema.specs.Slots.{plainly}
 use Rattle.ild_schema.specs.Value.{Value}
 use Rattle.ild_typed.specs.Blocks.{nodes}
 use Rattle.ild_typed.specs.Fits.{Fits}
-use Rattle.ild_typed.specs.Judged.{has_hole, breaks_delimiter, exhausts}
+use Rattle.ild_typed.specs.Judged.{has_hole, breaks_delimiter, exhausts, IsTooLong}
 use Rattle.ild_typed.proofs.Judging.{tree_sound}
-use Rattle.ild_typed.specs.Stands.{bare, blocks_of}
 use Rattle.ild_value.specs.Readings.{Means, MeansNone}
 use Rattle.ild_value.specs.declared.fault.ShownErr.{ShownErr}
 use Rattle.ild_value.specs.declared.fault.ShownErr.TheVariants as SE
@@ -28,7 +26,7 @@ use Rattle.ild_edges.specs.Store.{Moment, Later}
 use Rattle.ild_edges.specs.Told.{BothTold}
 use Rattle.ild_bulk_places.specs.Leaving.{AddsPlaced}
 use Rattle.ild_typed_places.specs.Places.{places_in}
-use Rattle.ild_build_blocks.specs.Builds.{HasBlocks, IsTooLong as IsLong, PutsSome, BuildAnswer, Builds}
+use Rattle.ild_build_blocks.specs.Builds.{HasBlocks, PutsSome, BuildAnswer, Builds}
 use Rattle.ild_build_blocks.specs.declared.fault.BuildFault.{BuildFault}
 use Rattle.ild_build_blocks.specs.declared.fault.BuildFault.TheVariants as B
 use Rattle.ild_run_create.specs.Given.{IsGivenAs}
@@ -38,7 +36,7 @@ use Rattle.ild_run_create.specs.declared.fault.CreateFault.{CreateFault}
 use Rattle.ild_run_create.specs.declared.fault.CreateFault.TheVariants as F
 use Rattle.ild_run_create.specs.declared.fault.Refusal.{Refusal}
 use Rattle.ild_run_create.specs.declared.fault.Refusal.TheVariants as R
-use Rattle.ild_run_create.proofs.Outcomes.{no_fault}
+use Rattle.ild_run_create.proofs.Outcomes.{bare_blocks, no_fault}
 
 -- ---- the value
 
@@ -143,19 +141,9 @@ first_judged h rows n v J.Depth judged = record { cause = judged.2; first = dept
 first_exhausted : (h : List ℕ → List ℕ) (rows : List Row) (n : TypeNo) (v : Value) → IsSound rows n v → exhausts h rows (plainly n) v ≡ true → IsFirstOf h rows n v R.Exhausted
 first_exhausted h rows n v sound cause = record { cause = cause; first = exhausted_before h rows n v sound }
 
--- the blocks of a value, bare
-pub bare_blocks : (h : List ℕ → List ℕ) (rows : List Row) (n : TypeNo) (v : Value) (d : Data) → spell d ∷ nodes h rows (plainly n) v ≡ blocks_of bare h rows n v d
-bare_blocks h rows n v d = ap (λ (bs : List (List ℕ)). spell d ∷ bs) (sym (append-nil (nodes h rows (plainly n) v)))
-
-first_long : (h : List ℕ → List ℕ) (rows : List Row) (n : TypeNo) (v : Value) → IsSound rows n v → IsLong h rows (plainly n) v → IsFirstOf h rows n v R.Size
+first_long : (h : List ℕ → List ℕ) (rows : List Row) (n : TypeNo) (v : Value) → IsSound rows n v → IsTooLong h rows (plainly n) v → IsFirstOf h rows n v R.Size
 first_long h rows n v sound long = record {
-  cause = record {
-    tree = long.tree;
-    represented = long.represented;
-    block = long.block;
-    among = subst (λ (bs : List (List ℕ)). Contains bs long.block) (bare_blocks h rows n v long.tree) long.among;
-    long = long.long;
-  };
+  cause = long;
   first = size_before h rows n v sound (tree_sound h rows (plainly n) v long.tree long.represented).3;
 }
 

@@ -1,5 +1,5 @@
 -- Bytes make one value, or none for one first cause.
-use Rattle.std.proofs.Common.{◌≡◌, ◌⊎◌, ℕ, ◌<◌, ◌≤◌, ◌==◌, List, Bool, true, false, if◌then◌else◌, Result, Ok, Err, Some, refl, sym, ap, ◌∙◌, subst, inl, inr, arith}
+use Rattle.std.proofs.Common.{append-nil, ◌≡◌, ◌⊎◌, ℕ, ◌<◌, ◌≤◌, ◌==◌, List, ◌∷◌, Bool, true, false, if◌then◌else◌, Result, Ok, Err, Some, refl, sym, ap, ◌∙◌, subst, inl, inr, arith}
 use Rattle.std.specs.Prelude.{length, Contains}
 use Rattle.std.specs.List.{AllByRecursion}
 use Rattle.std.proofs.lemmas.Bool.{cases_order}
@@ -7,6 +7,7 @@ use Rattle.std.proofs.lemmas.List.Elements.{All-contains, All-from_recursion}
 use Rattle.std.proofs.lemmas.Option.{same_Some}
 use Rattle.ild_data.specs.Data.{Data}
 use Rattle.ild_data.specs.Limits.{longest_block}
+use Rattle.ild_data.specs.Spell.{spell}
 use Rattle.ild_json.specs.Reading.{json_read}
 use Rattle.ild_json.specs.declared.error.JsonErr.{JsonErr}
 use Rattle.ild_value_meaning.specs.Meant.{Meant}
@@ -16,6 +17,7 @@ use Rattle.ild_schema.specs.declared.number.TypeNo.{TypeNo}
 use Rattle.ild_schema.specs.declared.row.Row.{Row}
 use Rattle.ild_schema.specs.Slots.{plainly}
 use Rattle.ild_schema.specs.Value.{Value}
+use Rattle.ild_typed.specs.Blocks.{nodes}
 use Rattle.ild_typed.specs.Hamt.{whole}
 use Rattle.ild_typed.specs.Judged.{has_hole, breaks_delimiter, exhausts}
 use Rattle.ild_typed.specs.Represented.{represented}
@@ -72,6 +74,10 @@ one_made h rows schema n b v w d e one two =
     let second = subst (λ (x : Value). represented (whole h) rows (plainly n) x ≡ Some e) (sym same) two.storable.tree in
     (same, same_Some d e (sym first ∙ second))
 
+-- the blocks of a value, bare
+pub bare_blocks : (h : List ℕ → List ℕ) (rows : List Row) (n : TypeNo) (v : Value) (d : Data) → spell d ∷ nodes h rows (plainly n) v ≡ blocks_of bare h rows n v d
+bare_blocks h rows n v d = ap (λ (bs : List (List ℕ)). spell d ∷ bs) (sym (append-nil (nodes h rows (plainly n) v)))
+
 -- a block that is too long isn't among those that are short enough
 short_one : (bs : List (List ℕ)) (block : List ℕ) → AllByRecursion (λ b. length b ≤ longest_block) bs → Contains bs block → longest_block < length block → ⊥
 short_one bs block short among long =
@@ -86,8 +92,8 @@ unrefused h rows n v d R.Depth storable cause = cause storable.fits
 unrefused h rows n v d R.Exhausted storable cause = not_both (exhausts h rows (plainly n) v) (tree_sound h rows (plainly n) v d storable.tree).3 cause
 unrefused h rows n v d R.Size storable cause =
     let same : d ≡ cause.tree = same_Some d cause.tree (sym storable.tree ∙ cause.represented) in
-    let among = subst (λ (x : Data). Contains (blocks_of bare h rows n v x) cause.block) (sym same) cause.among in
-    short_one (blocks_of bare h rows n v d) cause.block storable.sized among cause.long
+    let among = subst (λ (x : Data). Contains (spell x ∷ nodes h rows (plainly n) v) cause.block) (sym same) cause.among in
+    short_one (blocks_of bare h rows n v d) cause.block storable.sized (subst (λ (bs : List (List ℕ)). Contains bs cause.block) (bare_blocks h rows n v d) among) cause.long
 
 one_given : (h : List ℕ → List ℕ) (rows : List Row) → IsSchema rows → (n : TypeNo) (b : List ℕ) (v : Value) (r : Refusal) → IsGivenAs rows n b v → GiveOne h rows n b r → ValueHas h rows n v r
 one_given h rows schema n b v r given one = subst (λ (w : Value). ValueHas h rows n w r) (sym (same_given rows schema n b v one.value given one.given)) one.cause

@@ -29,7 +29,7 @@ use Rattle.ild_run_create.specs.inside.Steps.{put_fault, Stops, TriesNodes, Bloc
 use Rattle.ild_run_create.specs.Creates.{HasChildren, Tries, CreateAnswer, Creates}
 use Rattle.ild_run_create.specs.declared.fault.CreateFault.{CreateFault}
 use Rattle.ild_run_create.specs.declared.fault.CreateFault.TheVariants as F
-use Rattle.ild_run_create.proofs.Blocks.{bare_blocks}
+use Rattle.ild_run_create.proofs.Outcomes.{bare_blocks}
 use Rattle.ild_run_create.proofs.Outcomes.{first_given}
 
 -- ---- what is told at one moment after another

@@ -1,7 +1,7 @@
 -- Why bytes make no value that a store can hold: seven causes, each a fact by itself, and the first of them.
-use Rattle.std.specs.Prelude.{◌≡◌, ℕ, ◌<◌, true, List, length, Contains, Some, Ok, Err}
+use Rattle.std.specs.Prelude.{◌≡◌, ℕ, ◌<◌, true, List, Ok, Err}
 use Rattle.ild_data.specs.Data.{Data}
-use Rattle.ild_data.specs.Limits.{deepest, longest_block}
+use Rattle.ild_data.specs.Limits.{deepest}
 use Rattle.ild_json.specs.Reading.{json_read}
 use Rattle.ild_json.specs.declared.error.JsonErr.{JsonErr}
 use Rattle.ild_schema.specs.declared.number.TypeNo.{TypeNo}
@@ -9,24 +9,13 @@ use Rattle.ild_schema.specs.declared.row.Row.{Row}
 use Rattle.ild_schema.specs.Slots.{plainly}
 use Rattle.ild_schema.specs.Value.{Value}
 use Rattle.ild_typed.specs.Fits.{Fits}
-use Rattle.ild_typed.specs.Hamt.{whole}
-use Rattle.ild_typed.specs.Judged.{has_hole, breaks_delimiter, exhausts}
-use Rattle.ild_typed.specs.Represented.{represented}
-use Rattle.ild_typed.specs.Stands.{bare, blocks_of}
+use Rattle.ild_typed.specs.Judged.{has_hole, breaks_delimiter, exhausts, IsTooLong}
 use Rattle.ild_value.specs.Readings.{MeansNothing}
 use Rattle.ild_run_create.specs.Given.{IsGivenAs}
 use Rattle.ild_run_create.specs.declared.fault.Refusal.{Refusal}
 use Rattle.ild_run_create.specs.declared.fault.Refusal.TheVariants as R
 
 -- ---- of a value
-
--- it has a representation, and one of its blocks would be longer than a block may be
-pub record IsTooLong (h : List ℕ → List ℕ) (rows : List Row) (n : TypeNo) (v : Value) : Type 0 where
-  pub tree : Data
-  pub represented : represented (whole h) rows (plainly n) v ≡ Some tree
-  pub block : List ℕ
-  pub among : Contains (blocks_of bare h rows n v tree) block
-  pub long : longest_block < length block
 
 abbrev pub ValueHas : (List ℕ → List ℕ) → List Row → TypeNo → Value → Refusal → Type 0
 ValueHas h rows n v R.Json = ⊥
@@ -35,7 +24,7 @@ ValueHas h rows n v R.Hole = has_hole rows (plainly n) v ≡ true
 ValueHas h rows n v R.Delimiter = breaks_delimiter rows (plainly n) v ≡ true
 ValueHas h rows n v R.Depth = Fits rows deepest (plainly n) v → ⊥
 ValueHas h rows n v R.Exhausted = exhausts h rows (plainly n) v ≡ true
-ValueHas h rows n v R.Size = IsTooLong h rows n v
+ValueHas h rows n v R.Size = IsTooLong h rows (plainly n) v
 
 -- ---- of bytes
 

@@ -6,11 +6,7 @@ use Rattle.ild_edges.specs.Store.{Moment, Later}
 use Rattle.ild_script_session.specs.Step.{AddsOnly, Collides}
 use Rattle.ild_script_session.proofs.Came.{adds_none}
 
--- each block of the first is among the second
-abbrev pub AreAmong : List (List ℕ) → List (List ℕ) → Type 0
-AreAmong few many = (b : List ℕ) → Contains few b → Contains many b
-
-pub collides_wider : (n : Moment) (few many : List (List ℕ)) → AreAmong few many → Collides n few → Collides n many
+pub collides_wider : (n : Moment) (few many : List (List ℕ)) → ((b : List ℕ) → Contains few b → Contains many b) → Collides n few → Collides n many
 collides_wider n few many among hit = record { kept = hit.kept; new = hit.new; held = hit.held; among = among hit.new hit.among; collide = hit.collide }
 
 pub rose_later : (m k n : Moment) → Later m k → Rose k.faults n.faults → Rose m.faults n.faults

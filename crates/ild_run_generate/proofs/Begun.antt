@@ -1,5 +1,6 @@
 -- The run of the generator, from the empty map's document.
 use Rattle.std.proofs.Common.{◌≡◌, ℕ, [], List, length, Option, Some, None, Result, Ok, Err, refl, sym, ap, ◌∙◌, subst, arith}
+use Rattle.std.specs.Prelude.{Contains}
 use Rattle.ild_data.specs.Spell.{id_of}
 use Rattle.ild_data.specs.declared.id.BlockId.{BlockId}
 use Rattle.ild_edges.proofs.Later.{Later-trans}
@@ -18,7 +19,7 @@ use Rattle.ild_run_generate.specs.declared.fault.GenerateFault.{GenerateFault}
 use Rattle.ild_run_generate.specs.declared.fault.GenerateFault.TheVariants as F
 use Rattle.ild_run_generate.specs.declared.summary.Counts.{Counts}
 use Rattle.ild_run_generate.specs.declared.summary.Summary.{Summary}
-use Rattle.ild_run_generate.proofs.Added.{AreAmong, collides_wider, rose_later}
+use Rattle.ild_run_generate.proofs.Added.{collides_wider, rose_later}
 use Rattle.ild_script_session.proofs.Came.{adds_none, adds_wider, adds_trans}
 use Rattle.ild_run_generate.proofs.Ending.{counted, root_is, stands_then}
 use Rattle.ild_run_generate.proofs.Through.{among_through}
@@ -89,7 +90,7 @@ told_by (Some a) None held is keeps = absurd keeps
 told_by None b held is keeps = absurd cc
 
 module _ (law : StandingAreAt) (rows : List Row) (table : rows ≡ generator_rows) (seed count : ℕ) (m k : Moment) where
-  empty_among : AreAmong (blocks_in []) (blocks_through seed count)
+  empty_among : (b : List ℕ) → Contains (blocks_in []) b → Contains (blocks_through seed count) b
   empty_among b here = among_through seed 0 count (omega arith) b here
 
   start_adds : AddsOnly m k (empty_blocks id_of rows generator_type) → AddsOnly m k (blocks_through seed count)

@@ -12,7 +12,7 @@ use Rattle.ild_run_generate.specs.Steps.{Causes, StepTold}
 use Rattle.ild_run_generate.specs.declared.fault.GenerateFault.{GenerateFault}
 use Rattle.ild_run_generate.specs.declared.fault.GenerateFault.TheVariants as F
 use Rattle.ild_run_generate.specs.declared.summary.Counts.{Counts}
-use Rattle.ild_run_generate.proofs.Added.{AreAmong, collides_wider}
+use Rattle.ild_run_generate.proofs.Added.{collides_wider}
 use Rattle.ild_script_session.proofs.Came.{adds_wider, adds_trans}
 use Rattle.ild_script.specs.declared.reply.No.{No}
 use Rattle.ild_script_meaning.specs.PlainValue.{Value as Entries}
@@ -41,7 +41,7 @@ next_number seed i = number_by i (advanced (generated seed i)) (is_deletion (adv
 
 -- ---- blocks that may come by fewer steps
 
-first_among : (xs ys : List (List ℕ)) → AreAmong xs (xs ++ ys)
+first_among : (xs ys : List (List ℕ)) → (b : List ℕ) → Contains xs b → Contains (xs ++ ys) b
 first_among xs ys b here = Contains-append_left xs ys b here
 
 split_more : (i j : ℕ) → (i ≤ j) ⊎ (i ≡ suc j) → (suc i ≤ suc j) ⊎ (suc i ≡ suc (suc j))
@@ -57,12 +57,12 @@ among_by : (seed i j : ℕ) (b : List ℕ) → (i ≤ j → Contains (blocks_thr
 among_by seed i j b fewer here (inl less) = first_among (blocks_through seed j) (blocks_in (asked_map j (advanced (generated seed j)))) b (fewer less)
 among_by seed i j b fewer here (inr is) = subst (λ (n : ℕ). Contains (blocks_through seed n) b) is here
 
-pub among_through : (seed i j : ℕ) → i ≤ j → AreAmong (blocks_through seed i) (blocks_through seed j)
+pub among_through : (seed i j : ℕ) → i ≤ j → (b : List ℕ) → Contains (blocks_through seed i) b → Contains (blocks_through seed j) b
 among_through seed zero zero low b here = here
 among_through seed (suc i) zero low b here = absurd (omega (arith, low))
 among_through seed i (suc j) low b here = among_by seed i j b (λ less. among_through seed i j less b here) here (split i j low)
 
-pub causes_wider : (few many : List (List ℕ)) (f : GenerateFault) (n : Moment) → AreAmong few many → Causes few f n → Causes many f n
+pub causes_wider : (few many : List (List ℕ)) (f : GenerateFault) (n : Moment) → ((b : List ℕ) → Contains few b → Contains many b) → Causes few f n → Causes many f n
 causes_wider few many (F.Block id why) n among cause = cause
 causes_wider few many F.Store n among cause = tt
 causes_wider few many (F.Clash id) n among cause = (collides_wider n few many among cause.0, cause.1)
@@ -72,7 +72,7 @@ module _ (tests : Tests) (seed i : ℕ) (m k n : Moment) (d e : Doc) (c : Counts
   abbrev s : Generated
   s = advanced (generated seed i)
 
-  step_among : AreAmong (blocks_in (asked_map i s)) (blocks_through seed (suc i))
+  step_among : (b : List ℕ) → Contains (blocks_in (asked_map i s)) b → Contains (blocks_through seed (suc i)) b
   step_among b here = Contains-append_right (blocks_through seed i) (blocks_in (asked_map i s)) b here
 
   pub through_more : (o : Counts) → StepTold tests i s k e (Ok o) n → IsThrough tests seed (suc i) m e o n

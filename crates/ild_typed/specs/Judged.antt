@@ -1,6 +1,8 @@
 -- Why a value of a type has no representation: what is asked of each layer in turn.
-use Rattle.std.specs.Prelude.{ℕ, Bool, true, false, is_none, List, Option, Some, None, option_and_then}
+use Rattle.std.specs.Prelude.{◌≡◌, ℕ, ◌<◌, Bool, true, false, is_none, List, ◌∷◌, length, Contains, Option, Some, None, option_and_then}
 use Rattle.ild_data.specs.Data.{Data}
+use Rattle.ild_data.specs.Limits.{longest_block}
+use Rattle.ild_data.specs.Spell.{spell}
 use Rattle.ild_schema.specs.declared.number.Slot.{Slot}
 use Rattle.ild_schema.specs.declared.def.TypeDef.{TypeDef}
 use Rattle.ild_schema.specs.declared.def.TypeDef.TheVariants as D
@@ -12,12 +14,13 @@ use Rattle.ild_schema.specs.declared.def.Field.{Field}
 use Rattle.ild_schema.specs.declared.row.Row.{Row}
 use Rattle.ild_schema.specs.Value as V
 use Rattle.ild_schema.specs.Value.{Value, Values, Pairs, Optionals}
+use Rattle.ild_typed.specs.Blocks.{nodes}
 use Rattle.ild_typed.specs.Texts.{join, join_pairs}
 use Rattle.ild_typed.specs.Fields.{field_entries, all_items}
 use Rattle.ild_typed.specs.Strings.{texts_in, text_pairs}
 use Rattle.ild_data.specs.Trie.{trie}
 use Rattle.ild_typed.specs.Hamt.{whole, alone}
-use Rattle.ild_typed.specs.Represented.{represented_pairs, represented_fields}
+use Rattle.ild_typed.specs.Represented.{represented, represented_pairs, represented_fields}
 use Rattle.ild_typed.specs.EachLayer.{some_layer}
 
 -- ---- a hole: an absent field of a tuple before a present one
@@ -80,3 +83,13 @@ is_exhausted h rows d v = false
 
 abbrev pub exhausts : (List ℕ → List ℕ) → List Row → Slot → Value → Bool
 exhausts h rows = some_layer (is_exhausted h rows) rows
+
+-- ---- a block that is too long
+
+-- the value has a representation, and one of its blocks is longer than a block may be
+pub record IsTooLong (h : List ℕ → List ℕ) (rows : List Row) (slot : Slot) (v : Value) : Type 0 where
+  pub tree : Data
+  pub represented : represented (whole h) rows slot v ≡ Some tree
+  pub block : List ℕ
+  pub among : Contains (spell tree ∷ nodes h rows slot v) block
+  pub long : longest_block < length block

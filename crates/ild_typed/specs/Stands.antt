@@ -1,6 +1,7 @@
 -- The blocks of a value of a type, and the value that stands under an id in a store (IPLD HashMap; DAG-CBOR).
 use Rattle.std.specs.Prelude.{◌≡◌, ℕ, ◌≤◌, List, [], ◌∷◌, ◌++◌, length, Option, Some}
 use Rattle.std.specs.List.{AllByRecursion}
+use Rattle.ild_typed.specs.Among.{AreUnderIds}
 use Rattle.ild_data.specs.Data.{Data}
 use Rattle.ild_data.specs.Limits.{deepest, longest_block}
 use Rattle.ild_data.specs.Spell.{spell, id_of}
@@ -51,4 +52,4 @@ pub record Stands (f : Frame) (block : List ℕ → Option (List ℕ)) (h : List
   pub tree : Data
   pub storable : Storable f h rows n v tree
   pub root : id ≡ root_id f tree
-  pub all : AllByRecursion (λ b. block (id_of b) ≡ Some b) (blocks_of f h rows n v tree)
+  pub all : AreUnderIds block (blocks_of f h rows n v tree)

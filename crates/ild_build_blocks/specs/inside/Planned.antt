@@ -12,8 +12,8 @@ use Rattle.ild_schema.specs.Value.{Value}
 use Rattle.ild_typed.specs.Blocks.{nodes}
 use Rattle.ild_typed_places.specs.Places.{places_in}
 use Rattle.ild_bulk_places.specs.Following.{FollowsIn}
-use Rattle.ild_typed.specs.Judged.{exhausts}
-use Rattle.ild_build_blocks.specs.Builds.{HasBlocks, IsTooLong}
+use Rattle.ild_typed.specs.Judged.{exhausts, IsTooLong}
+use Rattle.ild_build_blocks.specs.Builds.{HasBlocks}
 use Rattle.ild_build_blocks.specs.declared.fault.BuildFault.{BuildFault}
 use Rattle.ild_build_blocks.specs.declared.fault.BuildFault.TheVariants as B
 use Rattle.ild_build_blocks.specs.declared.planned.Planned.{Planned}
