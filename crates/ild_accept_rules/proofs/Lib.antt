@@ -1,8 +1,6 @@
-mod Digits
 mod Occurring
 mod Stepping
 mod Prefixing
-mod Hexing
 mod Among
 mod Texts
 mod Orders

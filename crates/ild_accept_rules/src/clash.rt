@@ -214,7 +214,7 @@ fn is_told_before(
 {
     match discriminant_of(form, member) {
         None => false,
-        Some(text) => is_spelled_before(schema, ty, part, text),
+        Some(text) => is_spelled_before(schema, ty, part, text.as_str()),
     }
 }
 

@@ -1,4 +1,2 @@
-mod Digits
-mod Hexing
 pub mod Ordered
 pub mod Turns
