@@ -16,7 +16,7 @@ use Rattle.ild_schema.specs.declared.number.TypeNo.{TypeNo}
 use Rattle.ild_schema.specs.declared.row.Row.{Row}
 use Rattle.ild_schema.specs.Slots.{plainly}
 use Rattle.ild_schema.specs.Value.{Value}
-use Rattle.ild_script_session.specs.inside.Puts.{PutAnswer, PutsBlock}
+use Rattle.ild_script_session.specs.Puts.{PutAnswer, PutsBlock}
 use Rattle.ild_script_session.proofs.Steps.{all_keeps}
 use Rattle.ild_script_session.specs.declared.putting.PutFault.{PutFault}
 use Rattle.ild_script_session.specs.declared.putting.PutFault.TheVariants as P

@@ -17,7 +17,7 @@ use Rattle.ild_schema.specs.Slots.{plainly}
 use Rattle.ild_schema.specs.Value.{Value}
 use Rattle.ild_schema.specs.declared.number.TypeNo.{TypeNo}
 use Rattle.ild_schema.specs.declared.row.Row.{Row}
-use Rattle.ild_script_session.specs.inside.Puts.{PutAnswer, PutsBlock}
+use Rattle.ild_script_session.specs.Puts.{PutAnswer, PutsBlock}
 use Rattle.ild_script_session.specs.Step.{AddsOnly}
 use Rattle.ild_script_session.proofs.Came.{adds_trans, adds_wider}
 use Rattle.ild_script_session.specs.declared.putting.PutFault.{PutFault}

@@ -5,4 +5,4 @@ pub mod Run
 pub mod Stands
 pub mod Plain
 pub mod Lines
-pub mod inside
+pub mod Puts

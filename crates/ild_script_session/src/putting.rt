@@ -1,6 +1,6 @@
 //! Putting a block under its id.
 ghost use Rattle.ild_data.specs.Bytes.{AreBytes};
-ghost use Rattle.ild_script_session.specs.inside.Puts.{PutsBlock};
+ghost use Rattle.ild_script_session.specs.Puts.{PutsBlock};
 
 use ild_data::{BlockId, block_id};
 use ild_edges::{EdgeErr, Store};

@@ -50,9 +50,14 @@ fn copied(alloc: Global, acc: &Accepted, slot: Slot, json: &str) -> Result<Val, 
     }
 }
 
-/// Whether a row is so.
-fn is_so(alloc: Global, acc: &Accepted, row: &Row) -> Result<bool, &'static str> {
-    let (name, json, want) = *row;
+/// Whether the copy of the value that a JSON text means is shown so.
+pub(crate) fn is_so(
+    alloc: Global,
+    acc: &Accepted,
+    name: &str,
+    json: &str,
+    want: &str,
+) -> Result<bool, &'static str> {
     let slot = slot_of(acc, name)?;
     let val = copied(alloc, acc, slot, json)?;
     let tree = shown(alloc, acc, slot, &val)
@@ -66,7 +71,8 @@ fn is_so(alloc: Global, acc: &Accepted, row: &Row) -> Result<bool, &'static str>
 fn copies(rt: HostRuntime) -> Result<(), Fail> {
     let acc = compile(rt.alloc(), SRC.as_bytes()).ok().ok_or("a schema")?;
     for row in &COPIED {
-        assert!(rt; is_so(rt.alloc(), &acc, row)?, "{} {}", row.0, row.1);
+        let (name, json, want) = *row;
+        assert!(rt; is_so(rt.alloc(), &acc, name, json, want)?, "{name} {json}");
     }
     Ok(())
 }

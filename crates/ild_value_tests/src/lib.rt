@@ -9,6 +9,8 @@ mod deep;
 #[cfg(test)]
 mod judged;
 #[cfg(test)]
+mod large;
+#[cfg(test)]
 mod meant;
 #[cfg(test)]
 mod slots;

@@ -81,10 +81,15 @@ fn value_slot(acc: &Accepted, name: &str) -> Result<Slot, &'static str>
     }
 }
 
-/// The text of the value that a JSON text means.
-fn text(alloc: Global, acc: &Accepted, row: &Row) -> Result<Txt, &'static str> {
-    let slot = value_slot(acc, row.0)?;
-    let tree = tree_of(alloc, row.1)?;
+/// The text of the value of a map of this type that a JSON text means.
+pub(crate) fn text(
+    alloc: Global,
+    acc: &Accepted,
+    name: &str,
+    json: &str,
+) -> Result<Txt, &'static str> {
+    let slot = value_slot(acc, name)?;
+    let tree = tree_of(alloc, json)?;
     let val = match of_shown(alloc, acc, slot, &tree) {
         Ok(val) => val,
         Err(_) => return Err("a value"),
@@ -103,8 +108,9 @@ fn text(alloc: Global, acc: &Accepted, row: &Row) -> Result<Txt, &'static str> {
 fn texts(rt: HostRuntime) -> Result<(), Fail> {
     let acc = compile(rt.alloc(), SRC.as_bytes()).ok().ok_or("a schema")?;
     for row in &TEXTS {
-        let text = text(rt.alloc(), &acc, row)?;
-        assert_eq!(rt; text.as_str(), row.2, "{} {}", row.0, row.1);
+        let (name, json, want) = *row;
+        let text = text(rt.alloc(), &acc, name, json)?;
+        assert_eq!(rt; text.as_str(), want, "{name} {json}");
     }
     Ok(())
 }
