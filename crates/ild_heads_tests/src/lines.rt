@@ -94,3 +94,18 @@ fn outcomes_are_written(rt: HostRuntime) -> io::Result<()> {
     assert!(rt; told(alloc, Some(12), &Outcome::Moved(root), moved)?);
     Ok(())
 }
+
+#[test]
+fn a_head_of_a_long_name_is_written(rt: HostRuntime) -> io::Result<()> {
+    let alloc = rt.alloc();
+    let mut name = String::new(alloc);
+    let mut want = String::from_str(alloc, "head ")?;
+    for _ in 0..10_000 {
+        name.push_str("abc defgh~")?;
+        want.push_str("abc~2defgh~0")?;
+    }
+    want.push_str(" bafyreigbtj4x7ip5legnfznufuopl4sg4knzc2cof6duas4b3q2fy6swua\n")?;
+    let line = head_line(alloc, name.as_str(), &block_id(&[0xa0]))?;
+    assert!(rt; line.as_slice() == want.as_bytes());
+    Ok(())
+}

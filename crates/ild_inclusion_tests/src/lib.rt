@@ -6,6 +6,8 @@ mod blocks;
 #[cfg(test)]
 mod damaged;
 #[cfg(test)]
+mod large;
+#[cfg(test)]
 mod said;
 #[cfg(test)]
 mod told;

@@ -5,7 +5,7 @@ use Rattle.ild_layer_piece.specs.Pieces.{passed_key}
 use Rattle.ild_schema.specs.declared.row.Row.{Row}
 use Rattle.ild_union.specs.Forms.{passes_over}
 use Rattle.ild_layer_parts.specs.declared.part.Part.{Part}
-use Rattle.ild_layer_parts.specs.Inside.{IsPieceOf, IsWhole}
+use Rattle.ild_layer_parts.specs.PassedOver.{IsPieceOf, IsWhole}
 
 not_both : {A : Type 0} (b : Bool) → b ≡ true → b ≡ false → A
 not_both b there none = absurd (cc (sym there ∙ none))

@@ -8,5 +8,5 @@ pub mod PairEntries
 pub mod Texts
 pub mod Parts
 pub mod Ready
-pub mod Inside
+pub mod PassedOver
 pub mod inside

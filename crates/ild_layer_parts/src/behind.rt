@@ -11,7 +11,7 @@ ghost use Rattle.ild_typed.specs.Spots.{Spot};
 ghost use Rattle.ild_typed.specs.Strings.{pair_data};
 ghost use Rattle.ild_layer_parts.specs.Elements.{HasElements};
 ghost use Rattle.ild_layer_parts.specs.Entries.{HasEntries};
-ghost use Rattle.ild_layer_parts.specs.Inside.{AreInside};
+ghost use Rattle.ild_layer_parts.specs.PassedOver.{AreInside};
 ghost use Rattle.ild_layer_parts.specs.inside.Leaf.{BehindEntry, BehindItem, BehindPair, FitsOfKind, PassesOver};
 ghost use Rattle.ild_layer_parts.specs.PairEntries.{HasPairs};
 ghost use Rattle.ild_layer_parts.specs.Parts.{HasLeft, SplitsOff};

@@ -7,7 +7,7 @@ ghost use Rattle.ild_schema.specs.declared.row.Row.{Row};
 ghost use Rattle.ild_typed.specs.Spots.{Spot, element_spots};
 ghost use Rattle.ild_layer_parts.specs.Elements.{HasElements, SplitsElements, elements_left};
 ghost use Rattle.ild_layer_parts.specs.Ways.{LeadsFirst};
-ghost use Rattle.ild_layer_parts.specs.Inside.{IsWhole};
+ghost use Rattle.ild_layer_parts.specs.PassedOver.{IsWhole};
 ghost use Rattle.ild_layer_parts.specs.Ready.{AreReady, IsIn, IsReady};
 ghost use Rattle.ild_layer_parts.specs.declared.parts.Parts.TheVariants as P;
 

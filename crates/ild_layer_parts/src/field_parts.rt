@@ -11,7 +11,7 @@ ghost use Rattle.ild_struct.specs.Parts.{HasNumber, HasParts, IsFieldPart, field
 ghost use Rattle.ild_typed.specs.Spots.{Spot, field_spots};
 ghost use Rattle.ild_union.specs.Forms.{passes_over};
 ghost use Rattle.ild_layer_parts.specs.Fields.{Handed, HasFields, SplitsFields, fields_left};
-ghost use Rattle.ild_layer_parts.specs.Inside.{IsWhole};
+ghost use Rattle.ild_layer_parts.specs.PassedOver.{IsWhole};
 ghost use Rattle.ild_layer_parts.specs.Parts.{FieldLeads};
 ghost use Rattle.ild_layer_parts.specs.Ready.{AreIn, AreReady, IsPartReady};
 ghost use Rattle.ild_layer_parts.specs.declared.parts.Parts.TheVariants as P;

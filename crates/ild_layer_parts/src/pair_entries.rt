@@ -8,7 +8,7 @@ ghost use Rattle.ild_schema.specs.declared.row.Row.{Row};
 ghost use Rattle.ild_typed.specs.Spots.{Spot, entry_spots};
 ghost use Rattle.ild_typed.specs.Strings.{pair_data};
 ghost use Rattle.ild_layer_parts.specs.PairEntries.{HasPairs, SplitsPairs, pairs_left};
-ghost use Rattle.ild_layer_parts.specs.Inside.{IsWhole};
+ghost use Rattle.ild_layer_parts.specs.PassedOver.{IsWhole};
 ghost use Rattle.ild_layer_parts.specs.Ready.{AreReady, IsIn, IsReady};
 ghost use Rattle.ild_layer_parts.specs.declared.parts.Parts.TheVariants as P;
 ghost use Rattle.ild_layer_parts.specs.Ways.{LeadsFirst};

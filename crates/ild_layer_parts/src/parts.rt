@@ -3,7 +3,7 @@ ghost use Rattle.std.specs.Prelude.{◌≡◌, ◌<◌, ℕ, List, IfSome, Some}
 ghost use Rattle.ild_cbor.specs.declared.piece.Piece.{Piece};
 ghost use Rattle.ild_schema.specs.declared.row.Row.{Row};
 ghost use Rattle.ild_typed.specs.Spots.{Spot};
-ghost use Rattle.ild_layer_parts.specs.Inside.{AreInside, AreInsideBoth};
+ghost use Rattle.ild_layer_parts.specs.PassedOver.{AreInside, AreInsideBoth};
 ghost use Rattle.ild_layer_parts.specs.Parts.{HasLeft, LeadsOn, Splits, parts_left};
 ghost use Rattle.ild_layer_parts.specs.Ready.{AreReady, AreReadyBoth};
 ghost use Rattle.ild_layer_parts.specs.Ways.{LeadsWay};

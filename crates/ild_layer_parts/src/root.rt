@@ -8,7 +8,7 @@ ghost use Rattle.ild_schema.specs.declared.row.Row.{Row};
 ghost use Rattle.ild_data.specs.declared.hamt_shape.HamtShape.{HamtShape};
 ghost use Rattle.ild_typed.specs.RootSpots.{root_spots};
 ghost use Rattle.ild_typed.specs.Spots.{Spot};
-ghost use Rattle.ild_layer_parts.specs.Inside.{IsWhole};
+ghost use Rattle.ild_layer_parts.specs.PassedOver.{IsWhole};
 ghost use Rattle.ild_layer_parts.specs.Ready.{AreReady, IsIn, IsPartReady};
 ghost use Rattle.ild_layer_parts.specs.declared.parts.Parts.TheVariants as P;
 ghost use Rattle.ild_layer_parts.specs.Root.{HasRoot, SplitsRoot, root_left};

@@ -6,7 +6,7 @@ ghost use Rattle.ild_schema.specs.declared.row.Row.{Row};
 ghost use Rattle.ild_layer_fields.specs.Entries.{text_entries};
 ghost use Rattle.ild_text.specs.Parts.{pairs_in};
 ghost use Rattle.ild_typed.specs.Spots.{Spot, entry_spots};
-ghost use Rattle.ild_layer_parts.specs.Inside.{IsWhole};
+ghost use Rattle.ild_layer_parts.specs.PassedOver.{IsWhole};
 ghost use Rattle.ild_layer_parts.specs.Ready.{AreReady, IsIn, IsReady};
 ghost use Rattle.ild_layer_parts.specs.declared.parts.Parts.TheVariants as P;
 ghost use Rattle.ild_layer_parts.specs.Texts.{HasTexts, SplitsTexts, texts_left};

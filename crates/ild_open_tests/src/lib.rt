@@ -1,4 +1,5 @@
-//! Tests of trees of blocks that are read: values that are opened, in which HAMTs stand more than once, and two trees that are compared.
+//! Tests of trees of blocks that are read: values that are opened, in which HAMTs stand more than once, values that are loaded, and two
+//! trees that are compared.
 #![tactic(auto)]
 
 #[cfg(test)]
@@ -7,6 +8,8 @@ mod compared;
 mod depths;
 #[cfg(test)]
 mod hamts;
+#[cfg(test)]
+mod loaded;
 #[cfg(test)]
 mod nested;
 #[cfg(test)]

@@ -13,7 +13,7 @@ use crate::{Body, EnumBody, MapBody, ParseErr, StructBody, UnionBody};
 use std::alloc::Global;
 
 /// map = "{" Type ":" ref "}" [ "representation" form ]
-#[tactic(auto, unfolding(crate::specs::Rules::map_body_at))]
+#[tactic(auto, unfolding(crate::specs::inside::Rules::map_body_at))]
 fn read_map_body(alloc: Global, input: Input<'_>) -> Result<(Body, Input<'_>), ParseErr>
     ensures { Gives (λ x. (x.0, stream_of x.1)) result (map_body_at (stream_of input.entry)) }
 {
@@ -23,7 +23,7 @@ fn read_map_body(alloc: Global, input: Input<'_>) -> Result<(Body, Input<'_>), P
 }
 
 /// The body behind `struct`.
-#[tactic(auto, unfolding(crate::specs::Rules::struct_behind))]
+#[tactic(auto, unfolding(crate::specs::inside::Rules::struct_behind))]
 fn read_struct(alloc: Global, input: Input<'_>) -> Result<(Body, Input<'_>), ParseErr>
     ensures { Gives (λ x. (x.0, stream_of x.1)) result (struct_behind (stream_of input.entry)) }
 {
@@ -33,7 +33,7 @@ fn read_struct(alloc: Global, input: Input<'_>) -> Result<(Body, Input<'_>), Par
 }
 
 /// The body behind `union`.
-#[tactic(auto, unfolding(crate::specs::Rules::union_behind))]
+#[tactic(auto, unfolding(crate::specs::inside::Rules::union_behind))]
 fn read_union(alloc: Global, input: Input<'_>) -> Result<(Body, Input<'_>), ParseErr>
     ensures { Gives (λ x. (x.0, stream_of x.1)) result (union_behind (stream_of input.entry)) }
 {
@@ -43,7 +43,7 @@ fn read_union(alloc: Global, input: Input<'_>) -> Result<(Body, Input<'_>), Pars
 }
 
 /// The body behind `enum`.
-#[tactic(auto, unfolding(crate::specs::Rules::enum_behind))]
+#[tactic(auto, unfolding(crate::specs::inside::Rules::enum_behind))]
 fn read_enum(alloc: Global, input: Input<'_>) -> Result<(Body, Input<'_>), ParseErr>
     ensures { Gives (λ x. (x.0, stream_of x.1)) result (enum_behind (stream_of input.entry)) }
 {
@@ -61,7 +61,7 @@ fn read_list_body(alloc: Global, input: Input<'_>) -> Result<(Body, Input<'_>), 
 }
 
 /// The body that the next token names by itself.
-#[tactic(auto, unfolding(crate::specs::Rules::scalar_of))]
+#[tactic(auto, unfolding(crate::specs::inside::Rules::scalar_of))]
 fn scalar_of(input: Input<'_>) -> Option<Body>
     ensures { result ≡ scalar_of (stream_of input.entry) }
 {
@@ -97,7 +97,7 @@ fn read_scalar(input: Input<'_>) -> Result<(Body, Input<'_>), ParseErr>
 }
 
 /// The bodies that begin with a word.
-#[tactic(auto, unfolding(crate::specs::Rules::worded_body_at))]
+#[tactic(auto, unfolding(crate::specs::inside::Rules::worded_body_at))]
 fn read_worded_body(alloc: Global, input: Input<'_>) -> Result<(Body, Input<'_>), ParseErr>
     ensures { Gives (λ x. (x.0, stream_of x.1)) result (worded_body_at (stream_of input.entry)) }
 {

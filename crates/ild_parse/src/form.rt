@@ -87,7 +87,7 @@ fn read_envelope(alloc: Global, input: Input<'_>) -> Result<(Envelope, Input<'_>
 }
 
 /// The representations of unions that have settings.
-#[tactic(auto, unfolding(crate::specs::Rules::union_settings_at))]
+#[tactic(auto, unfolding(crate::specs::inside::Rules::union_settings_at))]
 fn read_union_settings(alloc: Global, input: Input<'_>) -> Result<(UnionForm, Input<'_>), ParseErr>
     ensures { Gives (λ x. (x.0, stream_of x.1)) result (union_settings_at (stream_of input.entry)) }
 {
@@ -105,7 +105,7 @@ fn read_union_settings(alloc: Global, input: Input<'_>) -> Result<(UnionForm, In
 impl Rule for UnionForm {
     ghost reading = { union_form_at };
 
-    #[tactic(auto, unfolding(ild_parse_grammar::proofs::Form::union_form_at, crate::specs::Rules::union_settings_at))]
+    #[tactic(auto, unfolding(ild_parse_grammar::proofs::Form::union_form_at, crate::specs::inside::Rules::union_settings_at))]
     fn read<'s>(alloc: Global, input: Input<'s>) -> Result<(UnionForm, Input<'s>), ParseErr> {
         if input.is("keyed") {
             return Ok((UnionForm::Keyed, input.rest()));

@@ -29,7 +29,7 @@ fn read_link(alloc: Global, input: Input<'_>) -> Result<(Inline, Input<'_>), Par
 
 /// "[" ref "]"
 #[cycle(nested)]
-#[tactic(auto, unfolding(crate::specs::Rules::element_at))]
+#[tactic(auto, unfolding(crate::specs::inside::Rules::element_at))]
 pub(crate) fn read_element(
     alloc: Global,
     room: u32,
@@ -52,7 +52,7 @@ fn read_list(alloc: Global, room: u32, input: Input<'_>) -> Result<(Inline, Inpu
 }
 
 /// "{" Type ":"
-#[tactic(auto, unfolding(crate::specs::Rules::key_at))]
+#[tactic(auto, unfolding(crate::specs::inside::Rules::key_at))]
 fn read_key(alloc: Global, input: Input<'_>) -> Result<(TypeName, Input<'_>), ParseErr>
     ensures { Gives (λ x. (x.0, stream_of x.1)) result (key_at (stream_of input.entry)) }
 {
@@ -63,7 +63,7 @@ fn read_key(alloc: Global, input: Input<'_>) -> Result<(TypeName, Input<'_>), Pa
 
 /// "{" Type ":" ref "}"
 #[cycle(nested)]
-#[tactic(auto, unfolding(crate::specs::Rules::pair_at))]
+#[tactic(auto, unfolding(crate::specs::inside::Rules::pair_at))]
 pub(crate) fn read_pair(
     alloc: Global,
     room: u32,

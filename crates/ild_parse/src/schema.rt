@@ -16,7 +16,7 @@ use ild_lex::Tokens;
 use std::alloc::Global;
 
 /// "type" Type body
-#[tactic(auto, unfolding(crate::specs::Rules::type_at))]
+#[tactic(auto, unfolding(crate::specs::inside::Rules::type_at))]
 fn read_type_decl(alloc: Global, input: Input<'_>) -> Result<(Decl, Input<'_>), ParseErr>
     ensures { Gives (λ x. (x.0, stream_of x.1)) result (type_at (stream_of input.entry)) }
 {

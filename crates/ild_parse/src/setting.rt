@@ -32,7 +32,7 @@ pub(crate) fn one_setting<'s>(
 }
 
 /// a Text b Text
-#[tactic(auto, unfolding(crate::specs::Rules::ordered_settings_at))]
+#[tactic(auto, unfolding(crate::specs::inside::Rules::ordered_settings_at))]
 fn ordered_settings<'s>(
     alloc: Global,
     a: &str,

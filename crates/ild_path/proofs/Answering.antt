@@ -1,5 +1,5 @@
 -- The answer of an edit through HAMTs as that of an edit at a place.
-use Rattle.std.proofs.Common.{◌≡◌, ◌⊎◌, inl, inr, ⊎_elim, ℕ, ◌≤◌, ◌<◌, Bool, true, List, ◌∷◌, length, Option, Some, None, sym, ap, ◌∙◌, subst, append-nil}
+use Rattle.std.proofs.Common.{◌≡◌, ◌⊎◌, inl, inr, ⊎_elim, ℕ, ◌≤◌, ◌<◌, Bool, true, false, List, ◌∷◌, length, Option, Some, None, refl, sym, ap, ◌∙◌, subst, append-nil}
 use Rattle.std.specs.Prelude.{Contains, IfOk, Result, Ok, Err}
 use Rattle.std.specs.List.{AllByRecursion}
 use Rattle.std.proofs.lemmas.Bool.{ltb-true}
@@ -24,7 +24,7 @@ use Rattle.ild_path_ends.specs.Ends.{AddsBlocks, Came, EditsWhole, WholeAnswer}
 use Rattle.ild_path_long.proofs.Parts.{parts_are_in_blocks}
 use Rattle.ild_path_sizes.specs.Long.{HasLongPart}
 use Rattle.ild_path_reroot.proofs.Among.{long_one}
-use Rattle.ild_path.specs.inside.Pieces.{AnswersAs}
+use Rattle.ild_path.specs.inside.Pieces.{AnswersAs, names_block}
 use Rattle.ild_path.proofs.Coming.{came_whole, in_short}
 use Rattle.ild_path.specs.Replaces.{ReplaceAnswer, Replaces, Spares}
 use Rattle.ild_path.specs.declared.fault.EditFault.{EditFault}
@@ -54,7 +54,7 @@ spares_of m k (Err (H.Clash id kept new)) r gets x is = subst (λ y. Spares m y 
 spares_of m k (Err H.Memory) r gets x is = subst (λ y. Spares m y k) (sym is) (record { cause = tt; later = x.later; gets = gets })
 spares_of m k (Err H.Exhausted) r gets x is = subst (λ y. Spares m y k) (sym is) (record { cause = tt; later = x.later; gets = gets })
 spares_of m k (Err H.NoKey) r gets x is = subst (λ y. Spares m y k) (sym is) (record { cause = tt; later = x.later; gets = gets })
-spares_of m k (Err (H.Block id why)) r gets x is = subst (λ y. Spares m y k) (sym is) (record { cause = tt; later = x.later; gets = gets })
+spares_of m k (Err (H.Block id why)) r gets x is = absurd is
 
 pub ok_of : (P : List ℕ → Type 0) (a : Result (List ℕ) HamtFault) (r : Result (List ℕ) EditFault) → IfOk a P → AnswersAs a r → IfOk r P
 ok_of P (Ok b) r x is = subst (λ y. IfOk y P) (sym is) x
@@ -64,7 +64,18 @@ ok_of P (Err (H.Clash id kept new)) r x is = subst (λ y. IfOk y P) (sym is.0) t
 ok_of P (Err H.Memory) r x is = subst (λ y. IfOk y P) (sym is) tt
 ok_of P (Err H.Exhausted) r x is = subst (λ y. IfOk y P) (sym is) tt
 ok_of P (Err H.NoKey) r x is = subst (λ y. IfOk y P) (sym is) tt
-ok_of P (Err (H.Block id why)) r x is = subst (λ y. IfOk y P) (sym is) tt
+ok_of P (Err (H.Block id why)) r x is = absurd is
+
+-- an edit gets no block, and so refuses none
+pub never_block : (m k : Moment) (a : Result (List ℕ) HamtFault) → CausedBy m a k → names_block a ≡ false
+never_block m k (Ok b) x = refl
+never_block m k (Err H.Exhausted) x = refl
+never_block m k (Err H.NoKey) x = refl
+never_block m k (Err H.Size) x = refl
+never_block m k (Err H.Store) x = refl
+never_block m k (Err (H.Clash id kept new)) x = refl
+never_block m k (Err H.Memory) x = refl
+never_block m k (Err (H.Block id why)) x = absurd x.cause
 
 -- ---- where the value is held
 

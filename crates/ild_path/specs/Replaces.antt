@@ -71,6 +71,8 @@ pub record IsHeldPart (h : List ℕ → List ℕ) (rows : List Row) (was : List 
 abbrev pub ReplaceAnswer : (List ℕ → List ℕ) → List Row → TypeNo → Value → Data → Moment → Result (List ℕ) EditFault → Moment → Type 0
 ReplaceAnswer h rows n c u m (Ok b) k = (b ≡ spell u) × AllByRecursion (λ y. length y ≤ longest_block) (blocks_of bare h rows n c u)
     × IfTold k.blocks (λ now. Stands bare (block_at now) h rows n (id_of b) c)
+ReplaceAnswer h rows n c u m (Err F.Exhausted) k = ⊥
+ReplaceAnswer h rows n c u m (Err F.NoKey) k = ⊥
 ReplaceAnswer h rows n c u m (Err F.Size) k = (b : List ℕ) × Contains (blocks_of bare h rows n c u) b × (longest_block < length b)
 ReplaceAnswer h rows n c u m (Err F.Store) k = Rose m.faults k.faults
 ReplaceAnswer h rows n c u m (Err (F.Clash id kept new)) k = Collides k (short (blocks_of bare h rows n c u))
@@ -103,6 +105,8 @@ Erases h place m result k =
 abbrev pub EditCause : Moment → EditFault → Moment → Type 0
 EditCause m F.Store k = Rose m.faults k.faults
 EditCause m (F.Clash id kept new) k = Clashes k id.0 kept new
+EditCause m F.Exhausted k = Unit {0}
+EditCause m F.NoKey k = Unit {0}
 EditCause m F.Size k = Unit {0}
 EditCause m F.Memory k = Unit {0}
 

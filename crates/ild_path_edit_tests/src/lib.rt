@@ -11,6 +11,8 @@ mod overlaps;
 #[cfg(test)]
 mod rules;
 #[cfg(test)]
+mod rules_large;
+#[cfg(test)]
 mod seen;
 #[cfg(test)]
 mod splices;

@@ -4,8 +4,8 @@ use hex::decode;
 use ild_cbor::check;
 use ild_compile::compile;
 use ild_path_room::{PartEdit, leaves_hole, room_left};
-use ild_path_rules::{key_fits, refusal_to_delete, slot_to_insert, slot_to_set};
-use ild_schema::Accepted;
+use ild_path_rules::{DeleteFault, key_fits, refusal_to_delete, slot_to_insert, slot_to_set};
+use ild_schema::{Accepted, Slot};
 use ild_script::line_of;
 use ild_view::View;
 use std::alloc::Global;
@@ -14,25 +14,27 @@ use std::test::Fail;
 const SRC: &str =
     "type T struct { a Int b optional Int c optional Int } representation tuple type M {E:Int} type E \
      enum { | Ann | Bob } type L [Int] type U union { | Int \"i\" | L \"l\" } representation keyed type P \
-     {String:L} representation listpairs";
+     {String:L} representation listpairs type N struct { a nullable String b optional L }";
 
-/// A type, a block of it and a segment; then whether a part may be set there (`s`), inserted (`i`) and deleted (`d`), and whether the segment may
-/// be a key (`k`).
-const ALLOWED: [&str; 14] = [
-    "T 8101 a => s--k",
-    "T 8101 b => si-k",
-    "T 820102 b => s-dk",
-    "T 8101 z => ---k",
-    "M a163416e6e01 Ann => s-dk",
-    "M a163416e6e01 Bob => si-k",
-    "M a163416e6e01 Cleo => si--",
-    "L 8105 0 => sidk",
-    "L 8105 1 => -i-k",
-    "L 8105 - => -i-k",
-    "L 8105 01 => ---k",
-    "U a1616901 Int => s--k",
-    "U a1616901 L => s--k",
-    "U a1616901 l => ---k",
+/// A type, a block of it and a segment; then the type of the part that may be set there, and of the one that may be inserted, with `?` where it may be
+/// null, `-` where none may; whether the part may be deleted (`ok`), or why not; and whether the segment may be a key (`k`).
+const ALLOWED: [&str; 16] = [
+    "T 8101 a => Int - mismatch k",
+    "T 8101 b => Int Int path k",
+    "T 820102 b => Int - ok k",
+    "T 8101 z => - - path k",
+    "M a163416e6e01 Ann => Int - ok k",
+    "M a163416e6e01 Bob => Int Int path k",
+    "M a163416e6e01 Cleo => Int Int path -",
+    "L 8105 0 => Int Int ok k",
+    "L 8105 1 => - Int path k",
+    "L 8105 - => - Int path k",
+    "L 8105 01 => - - path k",
+    "U a1616901 Int => Int - mismatch k",
+    "U a1616901 L => L - path k",
+    "U a1616901 l => - - path k",
+    "N a16161f6 a => String? - mismatch k",
+    "N a16161f6 b => L L path k",
 ];
 
 /// A type, a block of it and a path; then how many of 96 levels are left to a part there.
@@ -51,18 +53,48 @@ fn flag(letter: u8, on: bool) -> u8 {
     if on { letter } else { b'-' }
 }
 
-fn is_allowed(alloc: Global, view: &View<'_>, segment: &str, want: &str) -> Option<bool> {
-    let fits = key_fits(alloc, view, segment).ok()?;
-    let told = [
-        flag(b's', slot_to_set(view, segment).is_some()),
-        flag(b'i', slot_to_insert(view, segment).is_some()),
-        flag(b'd', refusal_to_delete(view, segment).is_none()),
-        flag(b'k', fits),
-    ];
-    Some(want.as_bytes() == told.as_slice())
+/// Whether a slot is of the type with a name, with `?` where it is nullable, or there is none.
+fn is_slot(acc: &Accepted, slot: Option<Slot>, want: &str) -> Option<bool> {
+    let Some(slot) = slot else {
+        return Some(want == "-");
+    };
+    let (name, nullable) = match want.strip_suffix('?') {
+        Some(name) => (name, true),
+        None => (want, false),
+    };
+    let ty = acc.type_named(name)?;
+    Some(slot.ty == ty && slot.nullable == nullable)
 }
 
-fn leaves_holes(view: &View<'_>, segment: &str, want: &str) -> bool {
+/// A word for whether a part may be deleted.
+fn deleted(refusal: Option<DeleteFault>) -> &'static str {
+    match refusal {
+        None => "ok",
+        Some(DeleteFault::Path) => "path",
+        Some(DeleteFault::Mismatch) => "mismatch",
+    }
+}
+
+/// Whether the table of edits allows this at a segment of a view.
+pub(crate) fn is_allowed(
+    alloc: Global,
+    view: &View<'_>,
+    segment: &str,
+    want: &str,
+) -> Option<bool> {
+    let (set, rest) = want.split_once(' ')?;
+    let (inserted, rest) = rest.split_once(' ')?;
+    let (gone, key) = rest.split_once(' ')?;
+    let acc = view.schema();
+    let sets = is_slot(acc, slot_to_set(view, segment), set)?;
+    let inserts = is_slot(acc, slot_to_insert(view, segment), inserted)?;
+    let deletes = deleted(refusal_to_delete(view, segment)) == gone;
+    let fits = key_fits(alloc, view, segment).ok()? == (key == "k");
+    Some(sets && inserts && deletes && fits)
+}
+
+/// Whether an edit at a segment of a view leaves holes so.
+pub(crate) fn leaves_holes(view: &View<'_>, segment: &str, want: &str) -> bool {
     let told = [
         flag(b'c', leaves_hole(view, segment, PartEdit::Comes)),
         flag(b'g', leaves_hole(view, segment, PartEdit::Goes)),

@@ -60,6 +60,8 @@ change_there rows is_key p (s ∷ ss) e = by (last_holder rows p s ss) e where
 
 done_fails : (h : List ℕ → List ℕ) (place : Place) (m k : Moment) (r : Result (List ℕ) EditFault) → Spares m r k → Fails m (done_as r) k
 done_fails h place m k (Ok b) x = tt
+done_fails h place m k (Err F.Exhausted) x = tt
+done_fails h place m k (Err F.NoKey) x = tt
 done_fails h place m k (Err F.Size) x = tt
 done_fails h place m k (Err F.Store) x = x.cause
 done_fails h place m k (Err (F.Clash id kept new)) x = tt

@@ -106,6 +106,8 @@ line_path by_insert path json = refl
 
 spares_fails : (m k : Moment) (r : Result (List ℕ) EditFault) → Spares m r k → Fails m (done_as r) k
 spares_fails m k (Ok b) x = tt
+spares_fails m k (Err F.Exhausted) x = tt
+spares_fails m k (Err F.NoKey) x = tt
 spares_fails m k (Err F.Size) x = tt
 spares_fails m k (Err F.Store) x = x.cause
 spares_fails m k (Err (F.Clash id kept new)) x = tt
@@ -121,6 +123,8 @@ in_puts j k m d a b e f g = omega arith
 -- what is answered of the second step, from before the first
 answer_from : (h : List ℕ → List ℕ) (rows : List Row) (t : Tests) (n : TypeNo) (v : Value) (e : Edit (List ℕ)) (m k j : Moment) (c : Value) (r : Result (List ℕ) EditFault) → Later m k → MoveAnswer h rows t n v e k (done_as r) j → MoveAnswer h rows t n v e m (done_as r) j
 answer_from h rows t n v e m k j c (Ok b) later a = a
+answer_from h rows t n v e m k j c (Err F.Exhausted) later a = a
+answer_from h rows t n v e m k j c (Err F.NoKey) later a = a
 answer_from h rows t n v e m k j c (Err F.Size) later a = a
 answer_from h rows t n v e m k j c (Err F.Store) later (inl a) = inl a
 answer_from h rows t n v e m k j c (Err F.Store) later (inr a) = inr (rose_later m.faults k.faults j.faults later.faults a)

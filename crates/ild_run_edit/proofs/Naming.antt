@@ -37,6 +37,8 @@ named : (clash : Option BlockId) (id : BlockId) (m : Moment) → clash ≡ Some 
 named clash id m e x = subst (λ c. NamesClash c m) (sym e) x
 
 done_of : (m k : Moment) (f : EditFault) (clash : Option BlockId) → EditCause m f k → NotesDone f clash → done_fault f ≡ N.Clash → NamesClash clash k
+done_of m k F.Exhausted clash cause notes e = absurd cc
+done_of m k F.NoKey clash cause notes e = absurd cc
 done_of m k F.Size clash cause notes e = absurd cc
 done_of m k F.Store clash cause notes e = absurd cc
 done_of m k F.Memory clash cause notes e = absurd cc

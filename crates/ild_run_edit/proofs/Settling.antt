@@ -131,6 +131,8 @@ module _ (h : List ℕ → List ℕ) (rows : List Row) (t : Tests) (n : TypeNo) 
 
   pub answer : (m k : Moment) (r : Result (List ℕ) EditFault) → ReplaceAnswer h rows n c u m r k → Passing r k → MoveAnswer h rows t n v e m (done_as r) k
   answer m k (Ok b) a p = record { value = c; tree = u; edited = made_ok a.1; storable = record { fits = fits; tree = tree; sized = a.1 }; spelled = a.0; holds = held_all k b a.2; passed = p }
+  answer m k (Err F.Exhausted) a p = absurd a
+  answer m k (Err F.NoKey) a p = absurd a
   answer m k (Err F.Size) a p = inl (too_long a.0 a.1 a.2)
   answer m k (Err F.Store) a p = inr a
   answer m k (Err (F.Clash id kept new)) a p = inr (subst (Collides k) (sym adds_are) a)

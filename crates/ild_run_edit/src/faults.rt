@@ -20,6 +20,8 @@ pub(crate) fn done_fault(fault: &EditFault, clash: &mut Option<BlockId>) -> No
     ensures notes { NotesDone fault.now clash.new }
 {
     match fault {
+        EditFault::Exhausted => No::Exhausted,
+        EditFault::NoKey => No::Path,
         EditFault::Size => No::Size,
         EditFault::Store => No::Store,
         EditFault::Clash { id, kept, new } => {

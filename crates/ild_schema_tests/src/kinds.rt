@@ -102,3 +102,31 @@ fn kinds_of_each_form(rt: HostRuntime) -> Result<(), Fail> {
     }
     Ok(())
 }
+
+/// A schema of a thousand types, each a copy of the next, and the last of them a struct of a thousand fields.
+fn copies(alloc: Global) -> Result<String, AllocError> {
+    let mut text = String::new(alloc);
+    for n in 1..1_000u32 {
+        let copy = format!(in alloc; "type C{n} = C{} ", n.wrapping_add(1))?;
+        text.push_str(copy.as_str())?;
+    }
+    text.push_str("type C1000 struct {")?;
+    for n in 0..1_000u32 {
+        let field = format!(in alloc; " f{n} Int")?;
+        text.push_str(field.as_str())?;
+    }
+    text.push_str(" } representation tuple")?;
+    Ok(text)
+}
+
+#[test]
+fn kinds_behind_many_copies(rt: HostRuntime) -> Result<(), Fail> {
+    let source = copies(rt.alloc())?;
+    let schema = table_of(rt.alloc(), source.as_str().as_bytes())
+        .ok()
+        .ok_or("a table")?;
+    for row in ["C1 list", "C500 list", "C1000 list"] {
+        assert!(rt; is_so(rt.alloc(), &schema, row) == Some(true), "{row}");
+    }
+    Ok(())
+}

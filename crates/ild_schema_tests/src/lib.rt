@@ -5,6 +5,8 @@
 #[cfg(test)]
 mod compared;
 #[cfg(test)]
+mod compared_large;
+#[cfg(test)]
 mod compile;
 #[cfg(test)]
 mod kinds;

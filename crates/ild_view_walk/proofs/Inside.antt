@@ -32,7 +32,7 @@ use Rattle.ild_view_walk.specs.declared.opening.Stop.{Stop}
 use Rattle.ild_layer_parts.specs.declared.part.Part.{Part}
 use Rattle.ild_layer_parts.specs.declared.parts.Parts.{Parts}
 use Rattle.ild_layer_parts.specs.declared.parts.Parts.TheVariants as PS
-use Rattle.ild_layer_parts.specs.Inside.{AreInside, IsPieceOf}
+use Rattle.ild_layer_parts.specs.PassedOver.{AreInside, IsPieceOf}
 use Rattle.ild_view_walk.specs.inside.Inside.{IsOpenInside, OpensMany, is_many}
 use Rattle.ild_layer_parts.specs.Ready.{IsInlined, is_struct}
 

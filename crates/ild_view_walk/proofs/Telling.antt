@@ -34,7 +34,7 @@ use Rattle.ild_view_walk.specs.declared.opening.Stop.TheVariants as S
 use Rattle.ild_layer_parts.specs.declared.part.Part.{Part}
 use Rattle.ild_layer_parts.specs.declared.parts.Parts.{Parts}
 use Rattle.ild_view_walk.specs.Checks.{Checks, Faults, is_depth}
-use Rattle.ild_layer_parts.specs.Inside.{IsPieceOf}
+use Rattle.ild_layer_parts.specs.PassedOver.{IsPieceOf}
 use Rattle.ild_view_walk.specs.inside.Opens.{IsStopped}
 use Rattle.ild_layer_parts.specs.Part.{IsSpotted}
 use Rattle.ild_layer_parts.specs.Parts.{HasLeft, LeadsOn, SplitsOff}

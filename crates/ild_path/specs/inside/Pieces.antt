@@ -50,9 +50,17 @@ EditsParts h parts edit m result k =
 
 -- ---- the answer of a HAMT's edit as one of a place's
 
+-- a block is told that isn't held, or isn't the node that has to stand there
+abbrev pub names_block : Result (List ℕ) HamtFault → Bool
+names_block (Err (H.Block id why)) = true
+names_block r = false
+
 abbrev pub AnswersAs : Result (List ℕ) HamtFault → Result (List ℕ) EditFault → Type 0
 AnswersAs (Ok b) r = r ≡ Ok b
+AnswersAs (Err H.Exhausted) r = r ≡ Err F.Exhausted
+AnswersAs (Err H.NoKey) r = r ≡ Err F.NoKey
 AnswersAs (Err H.Size) r = r ≡ Err F.Size
 AnswersAs (Err H.Store) r = r ≡ Err F.Store
 AnswersAs (Err (H.Clash id kept new)) r = (r ≡ Err (F.Clash id kept new)) × AreBytes kept × AreBytes new
-AnswersAs (Err e) r = r ≡ Err F.Memory
+AnswersAs (Err (H.Block id why)) r = ⊥
+AnswersAs (Err H.Memory) r = r ≡ Err F.Memory

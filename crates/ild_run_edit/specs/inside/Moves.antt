@@ -138,6 +138,8 @@ pub record PutsPart (h : List ℕ → List ℕ) (place : Place) (w : Value) (jso
 -- ---- faults of edits at a place, as refusals
 
 abbrev pub done_fault : EditFault → No
+done_fault F.Exhausted = N.Exhausted
+done_fault F.NoKey = N.Path
 done_fault F.Size = N.Size
 done_fault F.Store = N.Store
 done_fault (F.Clash id kept new) = N.Clash

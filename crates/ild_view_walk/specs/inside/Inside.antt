@@ -4,7 +4,7 @@ use Rattle.ild_cbor.specs.declared.piece.Piece.{Piece}
 use Rattle.ild_schema.specs.declared.row.Row.{Row}
 use Rattle.ild_view_walk.specs.declared.opening.Opening.{Opening}
 use Rattle.ild_view_walk.specs.declared.opening.Stop.{Stop}
-use Rattle.ild_layer_parts.specs.Inside.{AreInside}
+use Rattle.ild_layer_parts.specs.PassedOver.{AreInside}
 use Rattle.ild_layer_parts.specs.declared.parts.Parts.{Parts}
 use Rattle.ild_layer_parts.specs.declared.parts.Parts.TheVariants as P
 

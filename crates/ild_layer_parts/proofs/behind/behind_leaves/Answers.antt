@@ -1,7 +1,7 @@
 use Rattle.std.proofs.Common.{List, subst}
 use Rattle.ild_schema.specs.declared.row.Row.{Row}
 use Rattle.ild_layer_parts.specs.declared.parts.Parts.TheVariants as P
-use Rattle.ild_layer_parts.specs.Inside.{AreInside}
+use Rattle.ild_layer_parts.specs.PassedOver.{AreInside}
 use Rattle.ild_layer_parts.specs.Parts.{HasLeft}
 use Rattle.ild_layer_parts.specs.Ready.{AreReady}
 use Rattle.ild_layer_parts.proofs.Passing.{passed_off, passes_none}

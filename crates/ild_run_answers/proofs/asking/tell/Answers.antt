@@ -1,9 +1,9 @@
 use Rattle.std.proofs.Common.{List, subst}
 use Rattle.ild_data.specs.Spell.{id_of}
+use Rattle.ild_open.proofs.Shallow.{root_is_shallow}
 use Rattle.ild_schema.specs.declared.row.Row.{Row}
 use Rattle.ild_typed.specs.Schema.{IsSchema}
 use Rattle.ild_run_answers.proofs.Reading.{read_answers}
-use Rattle.ild_run_answers.proofs.Shallow.{root_is_shallow}
 use Rattle.ild_run_answers.proofs.asking.tell.Goals as goal
 
 pub returns : goal.returns

@@ -2,7 +2,7 @@ use Rattle.std.proofs.Common.{List, IfSome, Some, Ok, sym, ◌∙◌, subst, ari
 use Rattle.ild_schema.specs.declared.row.Row.{Row}
 use Rattle.ild_typed.specs.Schema.{IsSchema}
 use Rattle.ild_view_walk.specs.inside.Inside.{IsOpenInside}
-use Rattle.ild_layer_parts.specs.Inside.{IsPieceOf}
+use Rattle.ild_layer_parts.specs.PassedOver.{IsPieceOf}
 use Rattle.ild_view_walk.specs.inside.Opens.{IsOpening, OpensPiece}
 use Rattle.ild_layer_parts.specs.Parts.{LeadsOn, SplitsOff}
 use Rattle.ild_layer_parts.specs.Ready.{IsPartReady}

@@ -2,7 +2,7 @@ use Rattle.std.proofs.Common.{◌<◌}
 use Rattle.ild_data.specs.Data.{Data}
 use Rattle.ild_data.specs.Tree.{IsTree}
 use Rattle.ild_layer_piece.specs.Pieces.{StandsFor}
-use Rattle.ild_layer_parts.specs.Inside.{AreInside}
+use Rattle.ild_layer_parts.specs.PassedOver.{AreInside}
 use Rattle.ild_layer_parts.specs.Parts.{parts_left}
 use Rattle.ild_layer_parts.specs.Ready.{AreReady}
 use Rattle.ild_view_walk.proofs.Walking.{Walking}

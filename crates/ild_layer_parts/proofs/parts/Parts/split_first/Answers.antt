@@ -1,7 +1,7 @@
 use Rattle.std.proofs.Common.{Some, refl, subst}
 use Rattle.ild_layer_parts.specs.declared.parts.Parts.TheVariants as P
 use Rattle.ild_layer_parts.specs.Ready.{AreReady}
-use Rattle.ild_layer_parts.specs.Inside.{AreInside}
+use Rattle.ild_layer_parts.specs.PassedOver.{AreInside}
 use Rattle.ild_layer_parts.proofs.Whole.{whole_piece, whole_pieces}
 use Rattle.ild_layer_parts.proofs.Stepping.{takes_off, leads_as, left_as}
 use Rattle.ild_layer_parts.proofs.parts.Parts.split_first.Goals as goal
