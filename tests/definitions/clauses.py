@@ -42,7 +42,7 @@ def led_inside(crates):
         clauses = "\n".join(public_lines(whole))
         for module, _, names in imports(whole):
             if ".specs.inside." in module:
-                yield from (f"{source.relative_to(crates)}: a public clause names {name} of {module}" for name in named_in(clauses, names))
+                yield from (f"{source.relative_to(crates.parent)}: a public clause names {name} of {module}" for name in named_in(clauses, names))
     for source in sorted(crates.glob("ild_*/specs/**/*.antt")):
         if "inside" not in source.parts:
-            yield from (f"{source.relative_to(crates)} imports {module}" for module, _, _ in imports(source.read_text()) if ".specs.inside." in module)
+            yield from (f"{source.relative_to(crates.parent)} imports {module}" for module, _, _ in imports(source.read_text()) if ".specs.inside." in module)

@@ -1,5 +1,6 @@
 //! Proofs of parts of a large block, and of many blocks. What is wanted is spelled part by part (RFC 8949, section 3).
-use crate::told::{is_answered, proof_of, schema};
+use crate::told::{SRC, is_answered, proof_of};
+use ild_compile::compile;
 use ild_data::PadKeys;
 use std::alloc::{AllocError, Global};
 use std::test::Fail;
@@ -22,7 +23,7 @@ fn is_so(
     blocks: &[&[u8]],
     want: (&str, usize, &[u8]),
 ) -> Option<bool> {
-    let acc = schema(alloc).ok()?;
+    let acc = compile(alloc, SRC.as_bytes()).ok()?;
     let proof = proof_of(alloc, blocks)?;
     let root = blocks.first()?;
     is_answered(alloc, &acc, name, root, path, &proof, &PadKeys, want)

@@ -15,7 +15,7 @@ use std::test::Fail;
 
 const PLAIN: &[u8] = b"type N {String:Int}";
 
-const HAMT: &[u8] = b"type N {String:Int} representation advanced HAMT";
+pub(crate) const HAMT: &[u8] = b"type N {String:Int} representation advanced HAMT";
 
 /// A tree in a store: the root block, the blocks that are held, and the numbers of the gets that fail.
 type Tree<'t> = (&'t [u8], &'t [&'t [u8]], &'t [u64]);
@@ -67,30 +67,42 @@ fn word(answer: &Result<Compared, OpenFault>) -> &'static str {
     }
 }
 
-fn told(
+/// What is told of the trees of type `N` under two root blocks, each over a store.
+pub(crate) fn told_over(
     alloc: Global,
     schema: &[u8],
-    left: Tree<'_>,
-    right: Tree<'_>,
+    left: &[u8],
+    left_store: &mut MemStore,
+    right: &[u8],
+    right_store: &mut MemStore,
 ) -> Result<&'static str, Fail> {
     let acc = compile(alloc, schema).ok().ok_or("a schema")?;
     let ty = type_of(&acc).ok_or("a type")?;
     if ty.0 >= acc.types() {
         return Ok("no type");
     }
+    let first = doc_of(alloc, &acc, ty, left)?;
+    let second = doc_of(alloc, &acc, ty, right)?;
+    let answer = compare_trees(alloc, &first, left_store, &second, right_store, &PadKeys);
+    Ok(word(&answer))
+}
+
+fn told(
+    alloc: Global,
+    schema: &[u8],
+    left: Tree<'_>,
+    right: Tree<'_>,
+) -> Result<&'static str, Fail> {
     let mut left_store = store_of(alloc, left)?;
     let mut right_store = store_of(alloc, right)?;
-    let first = doc_of(alloc, &acc, ty, left.0)?;
-    let second = doc_of(alloc, &acc, ty, right.0)?;
-    let answer = compare_trees(
+    told_over(
         alloc,
-        &first,
+        schema,
+        left.0,
         &mut left_store,
-        &second,
+        right.0,
         &mut right_store,
-        &PadKeys,
-    );
-    Ok(word(&answer))
+    )
 }
 
 #[test]

@@ -9,6 +9,8 @@ mod depths;
 #[cfg(test)]
 mod hamts;
 #[cfg(test)]
+mod large;
+#[cfg(test)]
 mod loaded;
 #[cfg(test)]
 mod nested;

@@ -2,7 +2,7 @@
 ghost use Rattle.std.specs.Prelude.{◌≡◌};
 ghost use Rattle.ild_path_delimiter.specs.Tells.{AreHoldersOf, TellsOfTextEdit};
 ghost use Rattle.ild_path_delimiter.specs.TextEdits.{brought};
-ghost use Rattle.ild_path_item.specs.Texts.{text_of};
+ghost use Rattle.ild_path_item.specs.Texts.{borrowed_text};
 
 use crate::TextEdit;
 use crate::level::{Level, level_of};
@@ -13,7 +13,7 @@ use std::alloc::{AllocError, Global};
 
 // The text that an edit brings, if it does.
 fn text_of<'t>(edit: TextEdit<'t>) -> Option<&'t str>
-    ensures { text_of result ≡ brought edit.entry }
+    ensures { borrowed_text result ≡ brought edit.entry }
 {
     match edit {
         TextEdit::Set(text) | TextEdit::Insert(text) => Some(text),

@@ -2,7 +2,7 @@
 ghost use Rattle.std.specs.Prelude.{◌≡◌, ℕ, IfOk, IsSomeAnd, List, Some, false, slice_get, true};
 ghost use Rattle.ild_path_delimiter.specs.inside.Levels.{LevelIs, StandsAsText, StandsFree};
 ghost use Rattle.ild_path_holder.specs.Along.{is_holder};
-ghost use Rattle.ild_path_item.specs.Texts.{text_of};
+ghost use Rattle.ild_path_item.specs.Texts.{borrowed_text};
 ghost use Rattle.ild_schema.specs.declared.row.Row.{Row};
 ghost use Rattle.ild_typed.specs.At.{InSlot, seen};
 ghost use Rattle.ild_view.specs.Parts.{IsPartView};
@@ -42,7 +42,7 @@ fn made(
     segment: &str,
     new: Option<&str>,
 ) -> Result<Level, AllocError>
-    ensures { (rows : List Row) (q : InSlot) → IsPartView rows q view.now → is_holder (seen rows q) ≡ true → IfOk result (LevelIs rows q segment.now (text_of new.entry)) }
+    ensures { (rows : List Row) (q : InSlot) → IsPartView rows q view.now → is_holder (seen rows q) ≡ true → IfOk result (LevelIs rows q segment.now (borrowed_text new.entry)) }
 {
     if stands_free(view) {
         return Ok(Level::Free);
@@ -62,7 +62,7 @@ pub(crate) fn level_of(
     new: Option<&str>,
 ) -> Result<Level, AllocError>
     ensures { (rows : List Row) (q : InSlot) (s : List ℕ) → IsSomeAnd (slice_get views.now k) (IsPartView rows q)
-        → slice_get segments.now k ≡ Some s → is_holder (seen rows q) ≡ true → IfOk result (LevelIs rows q s (text_of new.entry)) }
+        → slice_get segments.now k ≡ Some s → is_holder (seen rows q) ≡ true → IfOk result (LevelIs rows q s (borrowed_text new.entry)) }
 {
     if k < views.len() && k < segments.len() {
         made(alloc, &views[k], segments[k].as_str(), new)

@@ -104,10 +104,10 @@ fn of_the_table(rt: HostRuntime) -> Result<(), Fail> {
     Ok(())
 }
 
-/// The text of 20,000 pairs of numbers and a letter, and of one pair more.
+/// The text of 4,000 pairs of numbers and a letter, and of one pair more.
 fn key(alloc: Global, last: &str) -> Result<String, AllocError> {
     let mut text = String::new(alloc);
-    for n in 10_000..30_000u32 {
+    for n in 10_000..14_000u32 {
         let pair = format!(in alloc; "{n}-x+")?;
         text.push_str(pair.as_str())?;
     }
@@ -123,9 +123,9 @@ fn of_long_keys(rt: HostRuntime) -> Result<(), Fail> {
         .ok()
         .ok_or("a schema")?;
     for (last, want) in [
-        ("30000-", "Int Int path k"),
-        ("29999-", "Int Int path -"),
-        ("30000", "Int Int path -"),
+        ("14000-", "Int Int path k"),
+        ("13999-", "Int Int path -"),
+        ("14000", "Int Int path -"),
     ] {
         let key = key(alloc, last)?;
         let told = all_allowed(alloc, &acc, "MK", b"\xa0", &[(key.as_str(), want)]);

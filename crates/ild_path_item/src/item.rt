@@ -4,7 +4,7 @@ ghost use Rattle.ild_data.specs.Data as T;
 ghost use Rattle.ild_path_block.specs.Changes.{node_of};
 ghost use Rattle.ild_path_block.specs.Items.{AnswersItem};
 ghost use Rattle.ild_path_item.specs.inside.Rewrites.{Rewrites};
-ghost use Rattle.ild_path_item.specs.Texts.{is_text_form, text_of};
+ghost use Rattle.ild_path_item.specs.Texts.{is_text_form, borrowed_text};
 ghost use Rattle.ild_path_last.specs.Change.{NewIs};
 ghost use Rattle.ild_schema.specs.Slots.{form_of};
 ghost use Rattle.ild_schema.specs.declared.def.TypeDef.{TypeDef as Def};
@@ -41,7 +41,7 @@ fn is_text_form(def: &TypeDef) -> bool
 
 // The text of the part that comes, or that none does; there is no answer where the part is no text.
 fn new_part<'n>(edit: &PartEdit<'n>) -> Option<Option<&'n str>>
-    ensures { (t : Option (List ℕ)) → NewIs (node_of edit.now) (option_map T.text t) → IsSomeAnd result (λ n. text_of n ≡ t) }
+    ensures { (t : Option (List ℕ)) → NewIs (node_of edit.now) (option_map T.text t) → IsSomeAnd result (λ n. borrowed_text n ≡ t) }
 {
     let Some(node) = node_of(edit) else {
         return Some(None);

@@ -3,7 +3,7 @@ ghost use Rattle.std.specs.Prelude.{◌≡◌, ◌<◌, IfOk, List, ℕ, Some, l
 ghost use Rattle.ild_data.specs.Data as T;
 ghost use Rattle.ild_layer_piece.specs.Pieces.{StandsFor};
 ghost use Rattle.ild_path_item.specs.inside.Rewrites.{TellsJoined};
-ghost use Rattle.ild_path_item.specs.Texts.{AnswersText, text_of};
+ghost use Rattle.ild_path_item.specs.Texts.{AnswersText, borrowed_text};
 ghost use Rattle.ild_schema.specs.Parts.{part_named};
 ghost use Rattle.ild_schema.specs.Slots.{form_of};
 ghost use Rattle.ild_schema.specs.declared.def.TypeDef.TheVariants as D;
@@ -29,7 +29,7 @@ fn member_text(
     number: Option<usize>,
     new: Option<&str>,
 ) -> Result<Option<Txt>, AllocError>
-    ensures { (k : ℕ) (t : List ℕ) → number ≡ Some k → text_of new.entry ≡ Some t → IfOk result (λ o. o ≡ option_and_then text_in (union_form union.now.form union.now.members (k, T.text t))) }
+    ensures { (k : ℕ) (t : List ℕ) → number ≡ Some k → borrowed_text new.entry ≡ Some t → IfOk result (λ o. o ≡ option_and_then text_in (union_form union.now.form union.now.members (k, T.text t))) }
 {
     match (number, new) {
         (Some(number), Some(new)) => marked_text(alloc, union, number, new),
@@ -47,7 +47,7 @@ fn joined_text(
     new: Option<&str>,
 ) -> Result<Option<Txt>, AllocError>
     requires { 0 < length delimiter.now }
-    ensures { (rows : List Row) (old : List ℕ) → StandsFor rows piece.now (T.text old) → TellsJoined delimiter.now old count place (text_of new.entry) result }
+    ensures { (rows : List Row) (old : List ℕ) → StandsFor rows piece.now (T.text old) → TellsJoined delimiter.now old count place (borrowed_text new.entry) result }
 {
     let (Some(old), Some(new)) = (text(piece), new) else {
         return Ok(None);
@@ -67,7 +67,7 @@ fn struct_text(
     requires known { form_of (table_of view.now) (slot_of view.now) ≡ Some (D.Struct def.now) }
     requires numbered { Some number ≡ part_named segment.now (D.Struct def.now) }
     requires within { number < length def.now.fields }
-    ensures { AnswersText view.now segment.now (text_of new.entry) result }
+    ensures { AnswersText view.now segment.now (borrowed_text new.entry) result }
 {
     view.schema().recall();
     match &def.form {
@@ -94,7 +94,7 @@ pub fn new_text(
     segment: &str,
     new: Option<&str>,
 ) -> Result<Option<Txt>, AllocError>
-    ensures { AnswersText view.now segment.now (text_of new.entry) result }
+    ensures { AnswersText view.now segment.now (borrowed_text new.entry) result }
 {
     let acc = view.schema();
     acc.recall();

@@ -8,7 +8,7 @@ use std::test::Fail;
 /// How many types, fields or members there are.
 const MANY: u32 = 1_000;
 
-/// Lists of lists, down to a type with this text: T, T1, T2, and so on.
+/// Lists of lists, down to a type with this text, each named by a letter and its number.
 fn lists(alloc: Global, last: &str) -> Result<String, AllocError> {
     let mut text = String::from_str(alloc, "type T [T1]")?;
     for n in 1..MANY {

@@ -21,8 +21,8 @@ load_flat-requires-clause-flat g c =
     let stands : HasData c.in-Ok.node d = subst (HasData c.in-Ok.node) (one_within x.0 d x.1.within c.requires.is_tree (sym x.1.spelled ∙ c.requires.spelled)) x.2.stands in
     spelled_flat c.in-Ok.node d stands c.requires.flat
 
-pub returns-in-Ok : goal.returns-in-Ok
-returns-in-Ok g c =
+pub returns : goal.returns
+returns g c =
     let d = data_of c.args.tree.now in
     let x = c.in-Ok.ensures.found in
     let stands : HasData c.in-Ok.node d = subst (HasData c.in-Ok.node) (one_within x.0 d x.1.within c.requires.is_tree (sym x.1.spelled ∙ c.requires.spelled)) x.2.stands in

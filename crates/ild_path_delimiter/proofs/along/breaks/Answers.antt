@@ -5,7 +5,7 @@ use Rattle.ild_path_delimiter.proofs.Climbing.{Changed, Claim, LevelClause, abov
 use Rattle.ild_path_delimiter.proofs.Reaching.{Makes}
 use Rattle.ild_path_delimiter.specs.TextEdits.{TextIs}
 use Rattle.ild_path_delimiter.specs.declared.level.Level.TheVariants as V
-use Rattle.ild_path_item.specs.Texts.{text_of}
+use Rattle.ild_path_item.specs.Texts.{borrowed_text}
 use Rattle.ild_schema.specs.Value.{Value}
 use Rattle.ild_schema.specs.Accept.{IsAccepted}
 use Rattle.ild_schema.specs.Table.{IsTable}
@@ -36,7 +36,7 @@ loop-k-init c = (
       let count : length c.as_slice-segments.result.now ≡ length path = ap length c.as_slice-segments.ensures in
       let n : ℕ = length c.as_slice-segments.result.now - 1 in
       let before = m.before in
-      let told = subst (λ xs. LevelClause c.args.views.now xs n (text_of c.text_of.result) c.in_ok-at.at) c.as_slice-segments.ensures c.in_ok-at.ensures in
+      let told = subst (λ xs. LevelClause c.args.views.now xs n (borrowed_text c.text_of.result) c.in_ok-at.at) c.as_slice-segments.ensures c.in_ok-at.ensures in
       let clause = subst (λ t. LevelClause c.args.views.now path n t c.in_ok-at.at) c.text_of.ensures told in
       last_done rows is_key schema keys edit w p path texts c.args.views.now views n x m c.in_ok-at.at (omega (arith, count, before)) clause,
 )

@@ -3,7 +3,7 @@ use Rattle.std.specs.Prelude.{IfOk}
 use Rattle.ild_path_delimiter.proofs.Making.{got_one, held_less, there_less}
 use Rattle.ild_path_delimiter.specs.inside.Levels.{LevelIs}
 use Rattle.ild_path_edit.proofs.Viewing.{segment_at, segment_is}
-use Rattle.ild_path_item.specs.Texts.{text_of}
+use Rattle.ild_path_item.specs.Texts.{borrowed_text}
 use Rattle.ild_view.specs.Parts.{IsPartView}
 use Rattle.ild_path_delimiter.proofs.level.level_of.Goals as goal
 use Rattle.ild_path_delimiter.proofs.level.level_of.Goals.{else-k-views-via-then-k-views+else-k-segments, else-k-views-via-else-k-views}
@@ -13,7 +13,7 @@ returns-then-k-segments c = λ rows q s view there holds.
     let x = segment_at c.args.segments.now c.args.segments.now c.args.k c.as_str.result.now c.index-segments-k.result c.as_str.ensures.same c.index-segments-k.is refl in
     let name : c.as_str.result.now ≡ s = segment_is c.args.segments.now c.args.k c.as_str.result.now s there x in
     let is = got_one (IsPartView rows q) c.args.views.now c.args.k c.index-views-k.result view c.index-views-k.is in
-    subst (λ y. IfOk c.made.result (LevelIs rows q y (text_of c.args.new))) name (c.made.ensures rows q is holds)
+    subst (λ y. IfOk c.made.result (LevelIs rows q y (borrowed_text c.args.new))) name (c.made.ensures rows q is holds)
 
 pub returns-else-k-views : goal.returns-else-k-views
 returns-else-k-views c = λ rows q s view there holds.

@@ -3,7 +3,7 @@ use Rattle.std.proofs.lemmas.Result.{err_from_is_err_and}
 use Rattle.ild_path_item.proofs.Parts.{Comes, comes}
 use Rattle.ild_path_item.proofs.Rewriting.{memory_told, of_text_told}
 use Rattle.ild_path_item.proofs.item.of_texts.Goals as goal
-use Rattle.ild_path_item.specs.Texts.{text_of}
+use Rattle.ild_path_item.specs.Texts.{borrowed_text}
 use Rattle.ild_path_steps.proofs.Holding.{held_by}
 use Rattle.ild_schema.specs.Legible.{IsLegible}
 use Rattle.ild_typed.specs.At.{InSlot}
@@ -28,7 +28,7 @@ returns c = λ d known text f w view holds allows.
     let legible = subst IsLegible c.schema.ensures c.recall.ensures.legible in
     let held = held_by rows (slot_of v) view.tree d known f view.front.tree in
     let x : Comes rows legible q view.tree d known text held holds c.args.edit.now w s = comes rows legible q view.tree d known text held holds c.args.edit.now w s allows in
-    of_text_told rows legible q view.tree d known text held holds c.args.edit.now w s x (text_of c.in-Some.new) c.in_ok-text.text c.item_of.result (rw c.in-Some.is at (c.new_part.ensures x.new x.node)) view.front.tree c.item_of.ensures
+    of_text_told rows legible q view.tree d known text held holds c.args.edit.now w s x (borrowed_text c.in-Some.new) c.in_ok-text.text c.item_of.result (rw c.in-Some.is at (c.new_part.ensures x.new x.node)) view.front.tree c.item_of.ensures
     (λ o j made lets. c.in_ok-text.ensures f o j view holds made lets)
 
 pub returns-in_err-text : goal.returns-in_err-text

@@ -6,7 +6,7 @@ use Rattle.ild_path_item.proofs.Joins.{field_there}
 use Rattle.ild_path_item.proofs.Members.{member_told}
 use Rattle.ild_path_item.proofs.Viewing.{bare_type, known_form, no_text, refusing}
 use Rattle.ild_path_item.proofs.text.new_text.Goals as goal
-use Rattle.ild_path_item.specs.Texts.{text_of}
+use Rattle.ild_path_item.specs.Texts.{borrowed_text}
 use Rattle.ild_schema.specs.Parts.{part_named}
 use Rattle.ild_schema.specs.declared.def.TypeDef.TheVariants as D
 use Rattle.ild_typed.specs.At.{InSlot}
@@ -19,7 +19,7 @@ returns-in-Union c = λ f o j view holds made lets.
     let u = c.in-Union.def in
     let q : InSlot = (slot_of v, f) in
     let known = known_form v c.schema-acc.result.now c.slot.result c.base-base.result.0 c.def.result.now c.schema-acc.ensures c.slot.ensures c.base-base.ensures.same c.def.ensures.same ∙ ap Some c.in-Union.is in
-    member_told (table_of v) q s u known o (text_of c.args.new) j c.member_text.result made holds lets
+    member_told (table_of v) q s u known o (borrowed_text c.args.new) j c.member_text.result made holds lets
     (λ k t numbered is. c.member_text.ensures k t (c.part_named.ensures.same ∙ ap (option_and_then (part_named s)) (c.def.ensures.same ∙ ap Some c.in-Union.is) ∙ numbered) is)
 
 pub returns-in-None : goal.returns-in-None
@@ -30,7 +30,7 @@ returns-in-None c = λ f o j view holds made lets.
     let r = c.in-Struct.def in
     let known = known_form v c.schema-acc.result.now c.slot.result c.base-base.result.0 c.def.result.now c.schema-acc.ensures c.slot.ensures c.base-base.ensures.same c.def.ensures.same ∙ ap Some c.in-Struct.is in
     absurd
-    (field_there (table_of v) q s r (T.text j) known o (option_map T.text (text_of c.args.new)) made holds lets
+    (field_there (table_of v) q s r (T.text j) known o (option_map T.text (borrowed_text c.args.new)) made holds lets
     (sym c.in-None.is ∙ c.part_named-in-Struct.ensures.same ∙ ap (option_and_then (part_named s)) (c.def.ensures.same ∙ ap Some c.in-Struct.is)))
 
 pub returns-in-Map : goal.returns-in-Map

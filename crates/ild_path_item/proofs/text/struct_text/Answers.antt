@@ -5,7 +5,7 @@ use Rattle.ild_path_holder.proofs.Written.{piece_stands}
 use Rattle.ild_path_item.proofs.Joins.{field_becomes, given, joined_told}
 use Rattle.ild_path_item.proofs.Viewing.{has_piece, no_text, plain_struct}
 use Rattle.ild_path_item.proofs.text.struct_text.Goals as goal
-use Rattle.ild_path_item.specs.Texts.{text_of}
+use Rattle.ild_path_item.specs.Texts.{borrowed_text}
 use Rattle.ild_schema.specs.Copies.{base}
 use Rattle.ild_schema.specs.Legible.{IsLegible}
 use Rattle.ild_schema.specs.declared.def.StructForm.TheVariants as S
@@ -32,7 +32,7 @@ returns-in-Some c = λ f o j view holds made lets.
     let q : InSlot = (slot_of v, f) in
     let s = c.args.segment.now in
     let delim = c.as_str.result.now in
-    let new = text_of c.args.new in
+    let new = borrowed_text c.args.new in
     let x = field_becomes rows q s c.args.def.now delim c.args.number view.tree c.requires.known (c.in-StringJoin.is ∙ ap S.StringJoin (sym c.as_str.ensures.same)) c.requires.numbered c.requires.within o new view.front.tree holds lets in
     joined_told rows o new q s c.args.def.now delim c.args.number c.len-count.result view.tree c.joined_text.result x c.len-count.ensures c.requires.within
     (c.joined_text.ensures rows x.old (subst (StandsFor rows c.in-Some.piece) x.text (piece_stands v f view c.in-Some.piece (sym c.in-Some.is ∙ c.piece.ensures))))

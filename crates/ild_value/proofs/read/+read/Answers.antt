@@ -98,7 +98,7 @@ pub elements-returns-in_err-val-clause-err : goal.elements-returns-in_err-val-cl
 elements-returns-in_err-val-clause-err t c =
     let at = YieldsList-turn (YieldsList-from_vec {s = c.into_iter-tree-iterator.result} c.into_vec-tree-items.result.items (search rules) (search rules)) c.loop-tree.yielded c.loop-tree.tree-iterator c.loop-tree.yielded_by c.next.result c.next.new.self
     c.in-Some.tree c.in-Some.is c.next.ensures.steps in
-    let p = err_from_is_err_and c.from_residual.result c.from_residual.ensures.1 in
+    let p = err_from_is_err_and c.from_residual-in_err-val.result c.from_residual-in_err-val.ensures.1 in
     rw (p.1, p.2) (list_refused c.args.acc.now c.args.slot c.args.elem c.into_vec-tree-items.result.items c.args.trees (length c.loop-tree.yielded) c.in-Some.tree c.in_err-val.field-0.0 c.requires.form c.into_vec-tree-items.ensures at.0 at.1 c.in_err-val.ensures.err)
 
 pub elements-returns-clause-ok : goal.elements-returns-clause-ok
