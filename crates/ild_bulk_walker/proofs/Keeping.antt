@@ -15,7 +15,8 @@ use Rattle.ild_edges.specs.Store.{Moment}
 use Rattle.ild_node_slots.specs.declared.fault.HamtFault.{HamtFault}
 use Rattle.ild_node_slots.specs.declared.fault.HamtFault.TheVariants as F
 use Rattle.ild_node_slots.proofs.Shapes.{levels_some}
-use Rattle.ild_bulk_walker.specs.Ahead.{NextIs, walker_todo, walker_path, walker_here, IsTrieFault, IsFaultAt, IsEntered, IsUnchanged, IsTaken}
+use Rattle.ild_bulk_walker.specs.Ahead.{walker_todo, walker_path}
+use Rattle.ild_bulk_walker.specs.inside.Stepping.{NextIs, walker_here, IsTrieFault, IsFaultAt, IsEntered, IsUnchanged, IsTaken}
 use Rattle.ild_bulk_walker.specs.Fetching.{IsRefused, GotSteps}
 use Rattle.ild_bulk_walker.specs.OnTree.{HasNode, IsOnTree, IsWrong, IsWrongNode, SlotsMany, TreeMany}
 use Rattle.ild_bulk_walker.specs.Standing.{way_of, indices_of, last_of, WalkStands, IsOn, IsBroken, KeepsOn, RowStands}

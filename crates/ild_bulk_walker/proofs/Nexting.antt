@@ -19,7 +19,8 @@ use Rattle.std.proofs.lemmas.List.{length-map}
 use Rattle.ild_bulk_walker.specs.Fetching.{IsRefused, OnlyGets}
 use Rattle.ild_bulk_walker.specs.Todo.{Todo, give, enter, leave, node_todo, fits, StillGives}
 use Rattle.ild_node_slots.proofs.Shapes.{levels_some}
-use Rattle.ild_bulk_walker.specs.Ahead.{Ahead, StillAhead, walker_todo, walker_path, walker_here, IsFaultAt, IsTrieFault, NothingTold, KeepsAhead, KeepsWhere, SameWhere, Leaves, Enters, EnterAnswer, IsPast, IsCause, IsUnchanged, TakesRow, Gives, GiveAnswer, GivesNext, IsNew, IsReady, BeginsWith, NextAnswer, Nexts, Counts, AnyRow, ComesNext}
+use Rattle.ild_bulk_walker.specs.Ahead.{Ahead, StillAhead, walker_todo, walker_path, KeepsAhead, KeepsWhere, IsCause, IsNew, BeginsWith, NextAnswer, Nexts, Counts}
+use Rattle.ild_bulk_walker.specs.inside.Stepping.{walker_here, IsFaultAt, IsTrieFault, NothingTold, SameWhere, Leaves, Enters, EnterAnswer, IsPast, IsUnchanged, TakesRow, Gives, GiveAnswer, GivesNext, IsReady, AnyRow, ComesNext}
 use Rattle.ild_bulk_walker.proofs.Opening.{root-on, root-off}
 use Rattle.ild_bulk_walker.proofs.Walking.{unchanged-still}
 use Rattle.ild_bulk_walker.specs.Standing.{KeepsOn, RowStands}

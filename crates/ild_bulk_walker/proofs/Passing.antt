@@ -5,7 +5,8 @@ use Rattle.ild_data.specs.declared.hamt_shape.HamtShape.{HamtShape}
 use Rattle.ild_data.specs.Spell.{spell}
 use Rattle.ild_node_slots.specs.declared.fault.HamtFault.{HamtFault}
 use Rattle.ild_node_slots.specs.declared.fault.HamtFault.TheVariants as F
-use Rattle.ild_bulk_walker.specs.Ahead.{walker_todo, walker_here, GivesNext, IsTaken, TakesRow, IsNextRow, IsPassed, PassesStep, Gives, AnyRow, FitsNext}
+use Rattle.ild_bulk_walker.specs.Ahead.{walker_todo}
+use Rattle.ild_bulk_walker.specs.inside.Stepping.{walker_here, GivesNext, IsTaken, TakesRow, IsNextRow, IsPassed, PassesStep, Gives, AnyRow, FitsNext}
 use Rattle.ild_bulk_walker.specs.Steps.{entry_key, entry_value, IsRowOf}
 use Rattle.ild_bulk_walker.specs.Todo.{Todo, give}
 use Rattle.ild_bulk_walker.specs.declared.row.Row.{Row}

@@ -11,7 +11,8 @@ use Rattle.ild_edges.specs.Gained.{AreHeld, FromBlocks, IsGot, OnlyReads}
 use Rattle.ild_edges.specs.Store.{Moment, block_at}
 use Rattle.ild_edges.specs.Told.{IfTold}
 use Rattle.ild_edges.proofs.Reading.{reads_then}
-use Rattle.ild_bulk_walker.specs.Ahead.{StillAhead, SameNodes, SameWhere}
+use Rattle.ild_bulk_walker.specs.Ahead.{StillAhead}
+use Rattle.ild_bulk_walker.specs.inside.Stepping.{SameNodes, SameWhere}
 use Rattle.ild_bulk_walker.specs.Fetching.{OnlyGets}
 use Rattle.ild_bulk_walker.specs.Gives.{IsNodeOf}
 use Rattle.ild_bulk_walker.specs.Reads.{HasRead}

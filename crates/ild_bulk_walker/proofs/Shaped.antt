@@ -5,7 +5,8 @@ use Rattle.ild_data.specs.declared.hamt_shape.HamtShape.{HamtShape}
 use Rattle.ild_data.specs.TrieShape.{trie_levels}
 use Rattle.ild_edges.specs.Store.{Moment}
 use Rattle.ild_node_slots.specs.declared.fault.HamtFault.{HamtFault}
-use Rattle.ild_bulk_walker.specs.Ahead.{AnyRow, Enters, Gives, Leaves, Nexts}
+use Rattle.ild_bulk_walker.specs.Ahead.{Nexts}
+use Rattle.ild_bulk_walker.specs.inside.Stepping.{AnyRow, Enters, Gives, Leaves}
 use Rattle.ild_bulk_walker.specs.declared.row.Row.{Row}
 use Rattle.ild_bulk_walker.specs.declared.walker.Walker.{Walker}
 

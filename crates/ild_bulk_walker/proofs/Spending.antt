@@ -10,7 +10,8 @@ use Rattle.ild_data.specs.TrieShape.{trie_levels}
 use Rattle.ild_edges.specs.Told.{IfTold}
 use Rattle.ild_edges.specs.Store.{Moment, block_at}
 use Rattle.ild_node_slots.specs.declared.fault.HamtFault.{HamtFault}
-use Rattle.ild_bulk_walker.specs.Ahead.{NextIs, walker_todo, IsEntered, IsTaken, IsUnchanged, SameNodes}
+use Rattle.ild_bulk_walker.specs.Ahead.{walker_todo}
+use Rattle.ild_bulk_walker.specs.inside.Stepping.{NextIs, IsEntered, IsTaken, IsUnchanged, SameNodes}
 use Rattle.ild_bulk_walker.specs.Fetching.{GotSteps}
 use Rattle.ild_bulk_walker.specs.Gives.{IsNodeOf}
 use Rattle.ild_bulk_walker.specs.Reads.{SlotNodes, SlotsNodes, NodesIn, NoNodes, TreeNodes, NodesBeneath, TodoNodes, LeftNodes, Spent, Spends}

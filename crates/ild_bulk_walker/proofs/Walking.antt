@@ -20,7 +20,8 @@ use Rattle.ild_node_slots.specs.declared.fault.HamtFault.TheVariants as F
 use Rattle.ild_bulk_walker.specs.Gives.{IsNodeOf, TreeGives, SlotsGive}
 use Rattle.ild_bulk_walker.specs.Todo.{Todo, enter, leave, slot_todo, node_todo, StillGives}
 use Rattle.ild_bulk_walker.specs.Steps.{step_todo, steps_todo, path_of}
-use Rattle.ild_bulk_walker.specs.Ahead.{NextIs, StillAhead, walker_todo, walker_path, walker_here, IsTrieFault, IsFaultAt, NothingAhead, Leaves, IsPast, IsEntered, IsUnchanged, SameWhere, NothingTold, EntersChild, EnterAnswer, Enters}
+use Rattle.ild_bulk_walker.specs.Ahead.{StillAhead, walker_todo, walker_path}
+use Rattle.ild_bulk_walker.specs.inside.Stepping.{NextIs, walker_here, IsTrieFault, IsFaultAt, NothingAhead, Leaves, IsPast, IsEntered, IsUnchanged, SameWhere, NothingTold, EntersChild, EnterAnswer, Enters}
 use Rattle.ild_bulk_walker.specs.Fetching.{GotSteps, IsRefused, FetchAnswer, Fetches}
 use Rattle.ild_bulk_walker.specs.declared.step.Child.{Child}
 use Rattle.ild_bulk_walker.specs.declared.step.Step.{Step}

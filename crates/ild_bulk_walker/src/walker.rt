@@ -47,7 +47,8 @@ impl Walker {
     ghost use Rattle.ild_node_slots.specs.Views.{HasSlots, view_shape};
     ghost use Rattle.ild_bulk_walker.specs.Todo.{enter, fits, leave};
     ghost use Rattle.ild_bulk_walker.specs.Steps.{entry_key};
-    ghost use Rattle.ild_bulk_walker.specs.Ahead.{AnyRow, Enters, Gives, GivesNext, IsDue, IsFaultAt, IsNew, IsNewLeft, IsNewOn, IsNextRow, IsPast, IsReady, Judges, IsTrieFault, Leaves, NextIs, Nexts, EntersChild, PassesStep, Readies, TakesRow, walker_here, walker_path, walker_shape, walker_todo};
+    ghost use Rattle.ild_bulk_walker.specs.Ahead.{IsNew, IsNewLeft, IsNewOn, Nexts, walker_path, walker_shape, walker_todo};
+    ghost use Rattle.ild_bulk_walker.specs.inside.Stepping.{AnyRow, Enters, Gives, GivesNext, IsDue, IsFaultAt, IsNextRow, IsPast, IsReady, Judges, IsTrieFault, Leaves, NextIs, EntersChild, PassesStep, Readies, TakesRow, walker_here};
 
     /// A walk beneath a root, which stands in the block of this id.
     pub fn new(alloc: Global, root: NodeView<'_>, at: BlockId) -> Result<Walker, AllocError>

@@ -1,7 +1,8 @@
 use Rattle.std.proofs.Common.{◌≡◌, ◌-◌, length}
 use Rattle.std.specs.Prelude.{Ok}
 use Rattle.ild_data.specs.TrieShape.{trie_levels}
-use Rattle.ild_bulk_walker.specs.Ahead.{Enters, walker_path}
+use Rattle.ild_bulk_walker.specs.Ahead.{walker_path}
+use Rattle.ild_bulk_walker.specs.inside.Stepping.{Enters}
 use Rattle.ild_bulk_walker.proofs.walker.Walker.enter_all.Given as goal
 
 abbrev pub decreases-loop-child : goal.decreases-loop-child

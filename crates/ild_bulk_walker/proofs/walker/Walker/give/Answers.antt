@@ -1,4 +1,4 @@
-use Rattle.ild_bulk_walker.specs.Ahead.{FitsNext}
+use Rattle.ild_bulk_walker.specs.inside.Stepping.{FitsNext}
 use Rattle.ild_bulk_walker.proofs.Nexting.{taken}
 use Rattle.ild_bulk_walker.proofs.walker.Walker.give.Goals as goal
 

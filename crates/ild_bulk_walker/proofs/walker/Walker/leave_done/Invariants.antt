@@ -1,6 +1,6 @@
 use Rattle.std.proofs.Common.{◌≡◌, length}
 use Rattle.std.specs.Prelude.{Ok}
-use Rattle.ild_bulk_walker.specs.Ahead.{Leaves}
+use Rattle.ild_bulk_walker.specs.inside.Stepping.{Leaves}
 use Rattle.ild_bulk_walker.proofs.walker.Walker.leave_done.Given as goal
 
 abbrev pub decreases-loop-before : goal.decreases-loop-before
