@@ -10,7 +10,6 @@ use Rattle.ild_data.specs.Limits.{longest_block, deepest}
 use Rattle.ild_json.specs.Reading.{json_read}
 use Rattle.ild_json.specs.declared.error.JsonErr.{JsonErr}
 use Rattle.ild_json.specs.declared.error.JsonErr.TheVariants as JE
-use Rattle.ild_value_meaning.proofs.Reading.{read_is_meant}
 use Rattle.ild_schema.specs.declared.number.TypeNo.{TypeNo}
 use Rattle.ild_schema.specs.declared.row.Row.{Row}
 use Rattle.ild_schema.specs.Slots.{plainly}
@@ -41,7 +40,7 @@ use Rattle.ild_run_create.proofs.Outcomes.{bare_blocks, no_fault}
 -- ---- the value
 
 pub given_as : (rows : List Row) (n : TypeNo) (b : List ℕ) (t : Data) (v : Value) → json_read b ≡ Ok t → Means rows (plainly n) t v → IsGivenAs rows n b v
-given_as rows n b t v json means = record { tree = t; json = json; meant = λ is_key tests. read_is_meant rows is_key (plainly n) t v (means.read is_key tests) }
+given_as rows n b t v json means = record { tree = t; json = json; meant = means.meant }
 
 none_before : (q : Refusal) → turn q < 1 → ⊥
 none_before R.Json less = omega arith

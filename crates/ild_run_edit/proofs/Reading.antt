@@ -19,8 +19,9 @@ use Rattle.ild_typed.specs.Schema.{IsSchema}
 use Rattle.ild_typed.specs.Typed.{Typed}
 use Rattle.ild_view.proofs.Opening.{safe_is}
 use Rattle.ild_view.specs.Safe.{is_safe}
-use Rattle.ild_value.specs.Readings.{MeansNothing}
+use Rattle.ild_value.specs.Readings.{Means, MeansNothing}
 use Rattle.ild_value_meaning.specs.MeantRead.{meant}
+use Rattle.ild_value_meaning.proofs.Meanings.{meant_is_read}
 use Rattle.ild_value_meaning.proofs.Reading.{read_is_meant}
 use Rattle.ild_path_edits.specs.Edit.{meant_or, read_or, new_part}
 use Rattle.ild_run_edit.specs.inside.Moves.{PartAnswer}
@@ -31,6 +32,11 @@ none_meant rows slot json d e none is_key keys = ap (λ r. read_or (meant rows i
   by : (o : Option Value) → meant rows is_key slot d ≡ o → meant_or (meant rows is_key slot d) ≡ Err N.Mismatch
   by None f = ap meant_or f
   by (Some v) f = absurd (none.none is_key keys v (read_is_meant rows is_key slot d v f))
+
+pub part_meant : (rows : List Row) → IsSchema rows → (slot : Slot) (json : List ℕ) (d : Data) (v : Value) → json_read json ≡ Ok d → Means rows slot d v
+    → (is_key : ℕ → List ℕ → Bool) → TestsKeys rows is_key → new_part rows is_key read_json (Some slot) json ≡ Ok v
+part_meant rows schema slot json d v e means is_key keys =
+    ap (λ r. read_or (meant rows is_key slot) (result_ok r)) e ∙ ap meant_or (meant_is_read rows is_key schema slot d v (means.meant is_key keys))
 
 pub part_as : (rows other : List Row) (slot same : Slot) (json : List ℕ) (r : Result Val No) → rows ≡ other → slot ≡ same → PartAnswer rows slot json r → PartAnswer other same json r
 part_as rows other slot same json r e f a = subst (λ rows. PartAnswer rows same json r) e (subst (λ slot. PartAnswer rows slot json r) f a)

@@ -27,6 +27,7 @@ fn part_of(alloc: Global, acc: &Accepted, slot: Slot, json: &[u8]) -> Result<Val
     ensures typed { IfOk result (λ v. Typed acc.now slot (value_of v)) }
     ensures answer { PartAnswer acc.now slot json.now result }
 {
+    acc.recall();
     let tree = match read(alloc, json) {
         Ok(tree) => tree,
         Err(JsonErr::Memory) => return Err(No::Memory),

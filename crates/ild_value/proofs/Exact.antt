@@ -17,11 +17,16 @@ use Rattle.ild_value_meaning.proofs.Reading.{read_is_meant}
 use Rattle.ild_value.specs.declared.fault.ShownErr.{ShownErr}
 use Rattle.ild_value.specs.declared.fault.ShownErr.TheVariants as E
 use Rattle.ild_value.specs.Readings.{Means, IsRefused, MeansNone, rule_of}
+use Rattle.ild_value.specs.inside.Parts.{IsReadAs}
+
+-- what is read is meant
+pub read_means : (rows : List Row) (slot : Slot) (t : Data) (v : Value) → IsReadAs rows slot t v → Means rows slot t v
+read_means rows slot t v r = record { meant = λ is_key tests. read_is_meant rows is_key slot t v (r.read is_key tests) }
 
 pub typed : (rows : List Row) → IsSchema rows → (slot : Slot) (t : Data) (v : Value) → IsTree t → Means rows slot t v → IsMeantTyped rows slot v
 typed rows schema slot t v tree m =
     let k = keys_are_tested rows schema in
-    meant_is_typed rows k.0 schema k.1 slot t v tree (read_is_meant rows k.0 slot t v (m.read k.0 k.1))
+    meant_is_typed rows k.0 schema k.1 slot t v tree (m.meant k.0 k.1)
 
 pub none_meant : (rows : List Row) → IsSchema rows → (slot : Slot) (t : Data) (e : ShownErr) → IsTree t → IsRefused rows slot t e → MeansNone rows slot t e
 none_meant rows schema slot t (E.Mismatch ty rule) tree b = record {

@@ -23,7 +23,8 @@ use Rattle.ild_schema.specs.Value.{Value}
 use Rattle.ild_value_meaning.specs.Meant.{is_null}
 use Rattle.ild_value_meaning.specs.MeantRead.{meant_items, readings, scalar_by, text_by, link_by, list_by, map_by}
 use Rattle.ild_value_meaning.specs.Mismatch.{Rule, Kind, Member, breaks, breaks_member, is_kind}
-use Rattle.ild_value.specs.Readings.{Means, Breaks}
+use Rattle.ild_value.specs.Readings.{Breaks}
+use Rattle.ild_value.specs.inside.Parts.{IsReadAs}
 
 pub own : (rows : List Row) (slot : Slot) (t : Data) (rule : Rule) → ((is_key : ℕ → List ℕ → Bool) → breaks rows is_key slot t rule ≡ true) → Breaks rows slot t slot.ty rule
 own rows slot t rule h = record { told = λ is_key tests. record { at = []; part = (slot, t); there = refl; type = refl; broken = h is_key } }
@@ -31,25 +32,25 @@ own rows slot t rule h = record { told = λ is_key tests. record { at = []; part
 pub kind_breaks : (rows : List Row) (slot : Slot) (t : Data) → is_kind rows slot t ≡ false → Breaks rows slot t slot.ty Kind
 kind_breaks rows slot t h = own rows slot t Kind (λ is_key. ap not h)
 
-pub null_means : (rows : List Row) (slot : Slot) → slot.nullable ≡ true → Means rows slot D.null V.null
+pub null_means : (rows : List Row) (slot : Slot) → slot.nullable ≡ true → IsReadAs rows slot D.null V.null
 null_means rows slot h = record { read = λ is_key tests. ap (λ b. cond b (Some V.null) None) h }
 
-pub bool_means : (rows : List Row) (slot : Slot) (b : Bool) → form_of rows slot ≡ Some T.Bool → Means rows slot (D.boolean b) (V.boolean b)
+pub bool_means : (rows : List Row) (slot : Slot) (b : Bool) → form_of rows slot ≡ Some T.Bool → IsReadAs rows slot (D.boolean b) (V.boolean b)
 bool_means rows slot b f = record { read = λ is_key tests. ap (λ g. scalar_by T.Bool (V.boolean b) (D.boolean b) g) f }
 
-pub int_means : (rows : List Row) (slot : Slot) (n : ℤ) → form_of rows slot ≡ Some T.Int → Means rows slot (D.integer n) (V.integer n)
+pub int_means : (rows : List Row) (slot : Slot) (n : ℤ) → form_of rows slot ≡ Some T.Int → IsReadAs rows slot (D.integer n) (V.integer n)
 int_means rows slot n f = record { read = λ is_key tests. ap (λ g. scalar_by T.Int (V.integer n) (D.integer n) g) f }
 
-pub bytes_means : (rows : List Row) (slot : Slot) (s : List ℕ) → form_of rows slot ≡ Some T.Bytes → Means rows slot (D.bytes s) (V.bytes s)
+pub bytes_means : (rows : List Row) (slot : Slot) (s : List ℕ) → form_of rows slot ≡ Some T.Bytes → IsReadAs rows slot (D.bytes s) (V.bytes s)
 bytes_means rows slot s f = record { read = λ is_key tests. ap (λ g. scalar_by T.Bytes (V.bytes s) (D.bytes s) g) f }
 
-pub link_means : (rows : List Row) (slot : Slot) (target : TypeNo) (s : List ℕ) → form_of rows slot ≡ Some (T.Link target) → Means rows slot (D.link s) (V.link s)
+pub link_means : (rows : List Row) (slot : Slot) (target : TypeNo) (s : List ℕ) → form_of rows slot ≡ Some (T.Link target) → IsReadAs rows slot (D.link s) (V.link s)
 link_means rows slot target s f = record { read = λ is_key tests. ap (λ g. link_by s g) f }
 
-pub text_means : (rows : List Row) (slot : Slot) (s : List ℕ) → form_of rows slot ≡ Some T.Text → Means rows slot (D.text s) (V.text s)
+pub text_means : (rows : List Row) (slot : Slot) (s : List ℕ) → form_of rows slot ≡ Some T.Text → IsReadAs rows slot (D.text s) (V.text s)
 text_means rows slot s f = record { read = λ is_key tests. ap (λ g. text_by s g) f }
 
-pub any_means : (rows : List Row) (slot : Slot) (d : Data) → form_of rows slot ≡ Some T.Any → is_null d ≡ false → Means rows slot d (V.any d)
+pub any_means : (rows : List Row) (slot : Slot) (d : Data) → form_of rows slot ≡ Some T.Any → is_null d ≡ false → IsReadAs rows slot d (V.any d)
 any_means rows slot D.null f h = absurd cc
 any_means rows slot (D.boolean b) f h = record { read = λ is_key tests. ap (λ g. scalar_by T.Bool (V.boolean b) (D.boolean b) g) f }
 any_means rows slot (D.integer n) f h = record { read = λ is_key tests. ap (λ g. scalar_by T.Int (V.integer n) (D.integer n) g) f }
@@ -77,7 +78,7 @@ zero_more (Some n) = ap Some (omega arith)
 enum_found : (rows : List Row) (slot : Slot) (e : EnumDef) (s : List ℕ) (r : Option ℕ) → form_of rows slot ≡ Some (T.Enum e) → r ≡ option_and_then (part_named s) (form_of rows slot) → enum_named s e.members ≡ r
 enum_found rows slot e s r f h = sym (zero_more (enum_named s e.members)) ∙ sym (enum_place s e.members 0) ∙ sym (ap (option_and_then (part_named s)) f) ∙ sym h
 
-pub enum_means : (rows : List Row) (slot : Slot) (e : EnumDef) (s : List ℕ) (n : ℕ) → form_of rows slot ≡ Some (T.Enum e) → Some n ≡ option_and_then (part_named s) (form_of rows slot) → Means rows slot (D.text s) (V.enum n)
+pub enum_means : (rows : List Row) (slot : Slot) (e : EnumDef) (s : List ℕ) (n : ℕ) → form_of rows slot ≡ Some (T.Enum e) → Some n ≡ option_and_then (part_named s) (form_of rows slot) → IsReadAs rows slot (D.text s) (V.enum n)
 enum_means rows slot e s n f h = record { read = λ is_key tests. ap (text_by s) f ∙ ap (option_map (λ n. V.enum n)) (enum_found rows slot e s (Some n) f h) }
 
 pub enum_breaks : (rows : List Row) (slot : Slot) (e : EnumDef) (s : List ℕ) → form_of rows slot ≡ Some (T.Enum e) → None ≡ option_and_then (part_named s) (form_of rows slot) → Breaks rows slot (D.text s) slot.ty Member

@@ -33,8 +33,8 @@ use Rattle.ild_value_meaning.proofs.Mismatched.{found_at, AreFirst}
 use Rattle.ild_value.specs.declared.fault.ShownErr.{ShownErr}
 use Rattle.ild_value.specs.declared.fault.ShownErr.TheVariants as E
 use Rattle.ild_value.specs.declared.fault.ShownRule.TheVariants as R
-use Rattle.ild_value.specs.Readings.{Means, Breaks, IsRefused, IsListOf, IsMapOf, IsUnit, rule_of}
-use Rattle.ild_value.specs.inside.Parts.{only_member, FieldMeans, IsFieldRefused}
+use Rattle.ild_value.specs.Readings.{Breaks, IsRefused, IsListOf, IsMapOf, IsUnit, rule_of}
+use Rattle.ild_value.specs.inside.Parts.{only_member, FieldMeans, IsFieldRefused, IsReadAs}
 use Rattle.ild_value.proofs.AllOf.{all_of}
 use Rattle.ild_value_shown.proofs.Fronts.{values_of-values_list, pairs_of-pairs_list, optionals_of-optionals_list}
 use Rattle.ild_value.proofs.Leaves.{own}
@@ -76,7 +76,7 @@ items_read rows is_key elem [] = refl
 items_read rows is_key elem (t ∷ ts) = ap (and_others (read_item rows is_key elem t)) (items_read rows is_key elem ts) ∙ others (read_item rows is_key elem t) (all_of (read_item rows is_key elem) ts)
 
 pub list_means : (rows : List Row) (slot elem : Slot) (ts : List Tree) (ds : Items) (vs : Values) → IsListOf rows slot elem → map data_of ts ≡ items_list ds
-    → ((is_key : ℕ → List ℕ → Bool) → TestsKeys rows is_key → all_of (read_item rows is_key elem) ts ≡ Some (values_list vs)) → Means rows slot (D.list ds) (V.list vs)
+    → ((is_key : ℕ → List ℕ → Bool) → TestsKeys rows is_key → all_of (read_item rows is_key elem) ts ≡ Some (values_list vs)) → IsReadAs rows slot (D.list ds) (V.list vs)
 list_means rows slot elem ts ds vs l seen all = record {
   read = λ is_key tests.
       let items : ds ≡ items_of (map data_of ts) = sym (items_of-items_list ds) ∙ ap items_of (sym seen) in
@@ -115,7 +115,7 @@ pairs_read rows is_key key elem (p ∷ ps) =
     ap (and_pairs (is_key key.0 p.0) p.0 v) (pairs_read rows is_key key elem ps) ∙ entries (is_key key.0 p.0) p.0 v (all_of (read_pair rows is_key key elem) ps)
 
 pub map_means : (rows : List Row) (slot : Slot) (key : TypeNo) (elem : Slot) (ps : List (List ℕ × Tree)) (ms : Members) (vs : Pairs) → IsMapOf rows slot key elem → map pair_of ps ≡ members_list ms
-    → ((is_key : ℕ → List ℕ → Bool) → TestsKeys rows is_key → all_of (read_pair rows is_key key elem) ps ≡ Some (pairs_list vs)) → Means rows slot (D.map ms) (V.map vs)
+    → ((is_key : ℕ → List ℕ → Bool) → TestsKeys rows is_key → all_of (read_pair rows is_key key elem) ps ≡ Some (pairs_list vs)) → IsReadAs rows slot (D.map ms) (V.map vs)
 map_means rows slot key elem ps ms vs l seen all = record {
   read = λ is_key tests.
       let members : ms ≡ members_of (map pair_of ps) = sym (members_of-members_list ms) ∙ ap members_of (sym seen) in
@@ -160,14 +160,14 @@ key_refused rows slot key elem ps ms i p b l seen low is utf8 h wrong = record {
   };
 }
 
-pub key_read : (rows : List Row) (is_key : ℕ → List ℕ → Bool) → TestsKeys rows is_key → (key : TypeNo) (elem : Slot) (p : List ℕ × Tree) (v : Value) (b : Bool) → IsUtf8 p.0 → (b ≡ true) ↔ IsTextOf rows key p.0 → b ≡ true → Means rows elem (data_of p.1) v
+pub key_read : (rows : List Row) (is_key : ℕ → List ℕ → Bool) → TestsKeys rows is_key → (key : TypeNo) (elem : Slot) (p : List ℕ × Tree) (v : Value) (b : Bool) → IsUtf8 p.0 → (b ≡ true) ↔ IsTextOf rows key p.0 → b ≡ true → IsReadAs rows elem (data_of p.1) v
     → read_pair rows is_key key elem p ≡ Some (p.0, v)
 key_read rows is_key tests key elem p v b utf8 h right m =
     ap (λ b. with_key b p.0 (meant rows is_key elem (data_of p.1))) (key_same rows is_key tests key p.0 b utf8 h ∙ right) ∙ ap (option_map (λ v. (p.0, v))) (m.read is_key tests)
 
 -- ---- units
 
-pub unit_means : (rows : List Row) (slot : Slot) (ms : Members) → IsUnit rows slot → length (members_list ms) ≡ 0 → Means rows slot (D.map ms) V.unit
+pub unit_means : (rows : List Row) (slot : Slot) (ms : Members) → IsUnit rows slot → length (members_list ms) ≡ 0 → IsReadAs rows slot (D.map ms) V.unit
 unit_means rows slot no_members u h = record { read = λ is_key tests. ap (λ f. map_by is_key no_members (readings rows is_key no_members) f) u.form }
 unit_means rows slot (member k d ms) u h = absurd (omega (arith, h))
 
@@ -190,7 +190,7 @@ fields_read rows is_key ms [] = refl
 fields_read rows is_key ms (f ∷ fs) = ap (and_fields (read_field rows is_key ms f)) (fields_read rows is_key ms fs) ∙ all_fields (read_field rows is_key ms f) (all_of (read_field rows is_key ms) fs)
 
 pub struct_means : (rows : List Row) (slot : Slot) (s : StructDef) (ms : Members) (os : Optionals) → form_of rows slot ≡ Some (T.Struct s) → are_named s.fields ms ≡ true
-    → ((is_key : ℕ → List ℕ → Bool) → TestsKeys rows is_key → all_of (read_field rows is_key ms) s.fields ≡ Some (optionals_list os)) → Means rows slot (D.map ms) (V.struct os)
+    → ((is_key : ℕ → List ℕ → Bool) → TestsKeys rows is_key → all_of (read_field rows is_key ms) s.fields ≡ Some (optionals_list os)) → IsReadAs rows slot (D.map ms) (V.struct os)
 struct_means rows slot s ms os form named all = record {
   read = λ is_key tests.
       let vals = fields_read rows is_key ms s.fields ∙ ap (option_map optionals_of) (all is_key tests) in
@@ -216,7 +216,7 @@ field_refused rows slot s ms i f e form first at (inr (inr m)) =
     refused_same rows slot (D.map ms) e (E.Mismatch slot.ty R.Missing) m.told
     (own rows slot (D.map ms) Missing (λ is_key. ap (λ g. breaks_missing g (D.map ms)) form ∙ any_at (lacks ms) s.fields i f at m.lacked))
 
-pub field_there : (rows : List Row) (f : Field) (ms : Members) (d : Data) (v : Value) → Some d ≡ value_at f.name (members_list ms) → Means rows f.slot d v → FieldMeans rows f ms (Some v)
+pub field_there : (rows : List Row) (f : Field) (ms : Members) (d : Data) (v : Value) → Some d ≡ value_at f.name (members_list ms) → IsReadAs rows f.slot d v → FieldMeans rows f ms (Some v)
 field_there rows f ms d v there m = record {
   read = λ is_key tests. ap (field_of f) (reading_at rows is_key ms f.name ∙ ap (option_map (λ d slot. meant rows is_key slot d)) (sym there)) ∙ ap (option_map (λ v. Some v)) (m.read is_key tests);
 }
@@ -238,7 +238,7 @@ only_is (member j c no_members) k d h = let same = same_Some (k, d) (j, c) h in 
 only_is (member j c (member l e ms)) k d h = absurd (none-some (k, d) (sym h))
 
 pub union_means : (rows : List Row) (slot : Slot) (u : UnionDef) (ms : Members) (k : List ℕ) (d : Data) (n : ℕ) (m : MemberDef) (v : Value) → form_of rows slot ≡ Some (T.Union u) → Some (k, d) ≡ only_member ms
-    → member_named k u.members ≡ Some (n, m) → Means rows (plainly m.ty) d v → Means rows slot (D.map ms) (V.union n v)
+    → member_named k u.members ≡ Some (n, m) → IsReadAs rows (plainly m.ty) d v → IsReadAs rows slot (D.map ms) (V.union n v)
 union_means rows slot u ms k d n m v form only named means = record {
   read = λ is_key tests.
       ap (λ ns. meant rows is_key slot (D.map ns)) (only_is ms k d only) ∙ ap (λ f. map_by is_key (member k d no_members) (readings rows is_key (member k d no_members)) f) form

@@ -11,7 +11,6 @@ use Rattle.ild_schema.specs.Slots.{form_of}
 use Rattle.ild_schema.specs.Value.{Value}
 use Rattle.ild_typed.specs.OfType.{TestsKeys}
 use Rattle.ild_value_meaning.specs.Meant.{Meant}
-use Rattle.ild_value_meaning.specs.MeantRead.{meant}
 use Rattle.ild_value_meaning.specs.Mismatch as M
 use Rattle.ild_value_meaning.specs.Mismatch.{IsMismatch}
 use Rattle.ild_value.specs.declared.fault.ShownErr.{ShownErr}
@@ -29,7 +28,7 @@ rule_of R.Key = M.Key
 
 -- the data mean this value
 pub record Means (rows : List Row) (slot : Slot) (t : Data) (v : Value) : Type 0 where
-  pub read : (is_key : ℕ → List ℕ → Bool) → TestsKeys rows is_key → meant rows is_key slot t ≡ Some v
+  pub meant : (is_key : ℕ → List ℕ → Bool) → TestsKeys rows is_key → Meant rows is_key slot t v
 
 -- a part of them breaks this rule at this type
 pub record Breaks (rows : List Row) (slot : Slot) (t : Data) (ty : TypeNo) (rule : M.Rule) : Type 0 where

@@ -9,8 +9,8 @@ ghost use Rattle.ild_schema.specs.Table.{IsWithin};
 ghost use Rattle.ild_schema.specs.Value as V;
 ghost use Rattle.ild_schema.specs.ValueSeen.{optional_of, value_of};
 ghost use Rattle.ild_schema.specs.declared.def.TypeDef.TheVariants as T;
-ghost use Rattle.ild_value.specs.inside.Parts.{FieldMeans, IsFieldRefused};
-ghost use Rattle.ild_value.specs.Readings.{IsListOf, IsMapOf, IsRefused, IsUnit, Means};
+ghost use Rattle.ild_value.specs.inside.Parts.{FieldMeans, IsFieldRefused, IsReadAs};
+ghost use Rattle.ild_value.specs.Readings.{IsListOf, IsMapOf, IsRefused, IsUnit};
 
 use crate::entry::{only, take_value};
 use crate::part::{are_named, left_out, member_named};
@@ -35,7 +35,7 @@ pub(crate) fn tree_value(
     tree: Tree,
 ) -> Result<Val, ShownErr>
     requires { slot.ty.0 < length acc.now }
-    ensures ok { IfOk result (λ v. Means acc.now slot (data_of tree) (value_of v)) }
+    ensures ok { IfOk result (λ v. IsReadAs acc.now slot (data_of tree) (value_of v)) }
     ensures err { IfErr result (IsRefused acc.now slot (data_of tree)) }
 {
     match tree {
@@ -54,7 +54,7 @@ pub(crate) fn tree_value(
 #[cycle(read)]
 fn list_value(alloc: Global, acc: &Accepted, slot: Slot, trees: Trees) -> Result<Val, ShownErr>
     requires { slot.ty.0 < length acc.now }
-    ensures ok { IfOk result (λ v. Means acc.now slot (D.list trees) (value_of v)) }
+    ensures ok { IfOk result (λ v. IsReadAs acc.now slot (D.list trees) (value_of v)) }
     ensures err { IfErr result (IsRefused acc.now slot (D.list trees)) }
 {
     match form(acc, slot) {
@@ -75,7 +75,7 @@ fn elements(
 ) -> Result<Vals, ShownErr>
     requires there { elem.ty.0 < length acc.now }
     requires form { IsListOf acc.now slot elem }
-    ensures ok { IfOk result (λ vals. Means acc.now slot (D.list trees) (V.list vals)) }
+    ensures ok { IfOk result (λ vals. IsReadAs acc.now slot (D.list trees) (V.list vals)) }
     ensures err { IfErr result (IsRefused acc.now slot (D.list trees)) }
 {
     let mut vals = Vals::with_room(alloc, trees.len())?;
@@ -90,7 +90,7 @@ fn elements(
 #[cycle(read)]
 fn map_value(alloc: Global, acc: &Accepted, slot: Slot, entries: Entries) -> Result<Val, ShownErr>
     requires { slot.ty.0 < length acc.now }
-    ensures ok { IfOk result (λ v. Means acc.now slot (D.map entries) (value_of v)) }
+    ensures ok { IfOk result (λ v. IsReadAs acc.now slot (D.map entries) (value_of v)) }
     ensures err { IfErr result (IsRefused acc.now slot (D.map entries)) }
 {
     match form(acc, slot) {
@@ -108,7 +108,7 @@ fn map_value(alloc: Global, acc: &Accepted, slot: Slot, entries: Entries) -> Res
 // A unit, which is shown as the empty map.
 fn unit_value(acc: &Accepted, slot: Slot, entries: &Entries) -> Result<Val, ShownErr>
     requires { IsUnit acc.now slot }
-    ensures ok { IfOk result (λ v. Means acc.now slot (D.map entries.now) (value_of v)) }
+    ensures ok { IfOk result (λ v. IsReadAs acc.now slot (D.map entries.now) (value_of v)) }
     ensures err { IfErr result (IsRefused acc.now slot (D.map entries.now)) }
 {
     if entries.len() == 0 {
@@ -134,7 +134,7 @@ fn pairs(
     requires key_there { key.0 < length acc.now }
     requires there { elem.ty.0 < length acc.now }
     requires form { IsMapOf acc.now slot key elem }
-    ensures ok { IfOk result (λ pairs. Means acc.now slot (D.map entries) (V.map pairs)) }
+    ensures ok { IfOk result (λ pairs. IsReadAs acc.now slot (D.map entries) (V.map pairs)) }
     ensures err { IfErr result (IsRefused acc.now slot (D.map entries)) }
 {
     let mut vals = ValPairs::with_room(alloc, entries.len())?;
@@ -164,7 +164,7 @@ fn fields(
     requires there { slot.ty.0 < length acc.now }
     requires form { form_of acc.now slot ≡ Some (T.Struct def.now) }
     requires within { IsWithin (length acc.now) (T.Struct def.now) }
-    ensures ok { IfOk result (λ fields. Means acc.now slot (D.map entries) (V.struct fields)) }
+    ensures ok { IfOk result (λ fields. IsReadAs acc.now slot (D.map entries) (V.struct fields)) }
     ensures err { IfErr result (IsRefused acc.now slot (D.map entries)) }
 {
     acc.recall();
@@ -218,7 +218,7 @@ fn union_value(
     requires there { slot.ty.0 < length acc.now }
     requires form { form_of acc.now slot ≡ Some (T.Union def.now) }
     requires within { IsWithin (length acc.now) (T.Union def.now) }
-    ensures ok { IfOk result (λ v. Means acc.now slot (D.map entries) (value_of v)) }
+    ensures ok { IfOk result (λ v. IsReadAs acc.now slot (D.map entries) (value_of v)) }
     ensures err { IfErr result (IsRefused acc.now slot (D.map entries)) }
 {
     let Some((name, tree)) = only(entries) else {

@@ -8,7 +8,8 @@ ghost use Rattle.ild_value_meaning.specs.Mismatch.{is_kind};
 ghost use Rattle.ild_schema.specs.Table.{IsWithin};
 ghost use Rattle.ild_schema.specs.declared.def.TypeDef.TheVariants as T;
 ghost use Rattle.ild_schema.specs.ValueSeen.{value_of};
-ghost use Rattle.ild_value.specs.Readings.{IsRefused, Means};
+ghost use Rattle.ild_value.specs.inside.Parts.{IsReadAs};
+ghost use Rattle.ild_value.specs.Readings.{IsRefused};
 
 use crate::{ShownErr, ShownRule};
 use ild_data::{Cid, Int, Octets, Tree, Txt};
@@ -35,7 +36,7 @@ pub(crate) fn form(acc: &Accepted, slot: Slot) -> &TypeDef
 
 /// Null.
 pub(crate) fn null_value(slot: Slot) -> Result<Val, ShownErr>
-    ensures ok { (rows : List Row) → IfOk result (λ v. Means rows slot D.null (value_of v)) }
+    ensures ok { (rows : List Row) → IfOk result (λ v. IsReadAs rows slot D.null (value_of v)) }
     ensures err { (rows : List Row) → IfErr result (IsRefused rows slot D.null) }
 {
     if slot.nullable {
@@ -48,7 +49,7 @@ pub(crate) fn null_value(slot: Slot) -> Result<Val, ShownErr>
 /// A truth value.
 pub(crate) fn boolean_value(acc: &Accepted, slot: Slot, b: bool) -> Result<Val, ShownErr>
     requires { slot.ty.0 < length acc.now }
-    ensures ok { IfOk result (λ v. Means acc.now slot (D.boolean b) (value_of v)) }
+    ensures ok { IfOk result (λ v. IsReadAs acc.now slot (D.boolean b) (value_of v)) }
     ensures err { IfErr result (IsRefused acc.now slot (D.boolean b)) }
 {
     match form(acc, slot) {
@@ -61,7 +62,7 @@ pub(crate) fn boolean_value(acc: &Accepted, slot: Slot, b: bool) -> Result<Val, 
 /// An integer.
 pub(crate) fn integer_value(acc: &Accepted, slot: Slot, n: Int) -> Result<Val, ShownErr>
     requires { slot.ty.0 < length acc.now }
-    ensures ok { IfOk result (λ v. Means acc.now slot (D.integer n) (value_of v)) }
+    ensures ok { IfOk result (λ v. IsReadAs acc.now slot (D.integer n) (value_of v)) }
     ensures err { IfErr result (IsRefused acc.now slot (D.integer n)) }
 {
     match form(acc, slot) {
@@ -74,7 +75,7 @@ pub(crate) fn integer_value(acc: &Accepted, slot: Slot, n: Int) -> Result<Val, S
 /// Bytes.
 pub(crate) fn bytes_value(acc: &Accepted, slot: Slot, bytes: Octets) -> Result<Val, ShownErr>
     requires { slot.ty.0 < length acc.now }
-    ensures ok { IfOk result (λ v. Means acc.now slot (D.bytes bytes) (value_of v)) }
+    ensures ok { IfOk result (λ v. IsReadAs acc.now slot (D.bytes bytes) (value_of v)) }
     ensures err { IfErr result (IsRefused acc.now slot (D.bytes bytes)) }
 {
     match form(acc, slot) {
@@ -87,7 +88,7 @@ pub(crate) fn bytes_value(acc: &Accepted, slot: Slot, bytes: Octets) -> Result<V
 /// A link.
 pub(crate) fn link_value(acc: &Accepted, slot: Slot, cid: Cid) -> Result<Val, ShownErr>
     requires { slot.ty.0 < length acc.now }
-    ensures ok { IfOk result (λ v. Means acc.now slot (D.link cid) (value_of v)) }
+    ensures ok { IfOk result (λ v. IsReadAs acc.now slot (D.link cid) (value_of v)) }
     ensures err { IfErr result (IsRefused acc.now slot (D.link cid)) }
 {
     match form(acc, slot) {
@@ -102,7 +103,7 @@ fn member(acc: &Accepted, slot: Slot, def: &EnumDef, text: &Txt) -> Result<Val, 
     requires there { slot.ty.0 < length acc.now }
     requires form { form_of acc.now slot ≡ Some (T.Enum def.now) }
     requires most { length def.now.members ≤ 1024 }
-    ensures ok { IfOk result (λ v. Means acc.now slot (D.text text.now) (value_of v)) }
+    ensures ok { IfOk result (λ v. IsReadAs acc.now slot (D.text text.now) (value_of v)) }
     ensures err { IfErr result (IsRefused acc.now slot (D.text text.now)) }
 {
     match acc.part_named(acc.base(slot.ty), text.as_str()) {
@@ -117,7 +118,7 @@ fn member(acc: &Accepted, slot: Slot, def: &EnumDef, text: &Txt) -> Result<Val, 
 /// A text.
 pub(crate) fn text_value(acc: &Accepted, slot: Slot, text: Txt) -> Result<Val, ShownErr>
     requires { slot.ty.0 < length acc.now }
-    ensures ok { IfOk result (λ v. Means acc.now slot (D.text text) (value_of v)) }
+    ensures ok { IfOk result (λ v. IsReadAs acc.now slot (D.text text) (value_of v)) }
     ensures err { IfErr result (IsRefused acc.now slot (D.text text)) }
 {
     match form(acc, slot) {

@@ -4,17 +4,22 @@ use Rattle.ild_data.specs.Data.{Data, Members, no_members, member, members_list}
 use Rattle.ild_data.specs.Key.{value_at}
 use Rattle.ild_schema.specs.declared.def.Field.{Field}
 use Rattle.ild_schema.specs.declared.def.Member.{Member}
+use Rattle.ild_schema.specs.declared.number.Slot.{Slot}
 use Rattle.ild_schema.specs.declared.number.TypeNo.{TypeNo}
 use Rattle.ild_schema.specs.declared.row.Row.{Row}
 use Rattle.ild_schema.specs.Value.{Value}
 use Rattle.ild_typed.specs.OfType.{TestsKeys}
 use Rattle.ild_typed.specs.Segment.{member_named}
-use Rattle.ild_value_meaning.specs.MeantRead.{readings, field_of}
+use Rattle.ild_value_meaning.specs.MeantRead.{meant, readings, field_of}
 use Rattle.ild_value_meaning.specs.Mismatch.{lacks}
 use Rattle.ild_value.specs.declared.fault.ShownErr.{ShownErr}
 use Rattle.ild_value.specs.declared.fault.ShownErr.TheVariants as E
 use Rattle.ild_value.specs.declared.fault.ShownRule.TheVariants as R
 use Rattle.ild_value.specs.Readings.{IsRefused}
+
+-- the data are read as this value
+pub record IsReadAs (rows : List Row) (slot : Slot) (t : Data) (v : Value) : Type 0 where
+  pub read : (is_key : ℕ → List ℕ → Bool) → TestsKeys rows is_key → meant rows is_key slot t ≡ Some v
 
 -- the entry of a map that has no other
 abbrev pub only_member : Members → Option (List ℕ × Data)

@@ -21,8 +21,8 @@ use Rattle.ild_value_meaning.proofs.Mismatched.{are_first}
 use Rattle.ild_value_meaning.proofs.Told.{told}
 use Rattle.ild_value.specs.declared.fault.ShownErr.TheVariants as E
 use Rattle.ild_value.specs.declared.fault.ShownRule.TheVariants as R
-use Rattle.ild_value.specs.inside.Parts.{FieldMeans, IsFieldRefused}
-use Rattle.ild_value.specs.Readings.{Means, IsRefused}
+use Rattle.ild_value.specs.inside.Parts.{FieldMeans, IsFieldRefused, IsReadAs}
+use Rattle.ild_value.specs.Readings.{IsRefused}
 use Rattle.ild_value.proofs.AllOf.{all_of, all_next, all_step, all_whole}
 use Rattle.ild_value.proofs.Exact.{if_err}
 use Rattle.ild_value.proofs.Leaves.{any_means}
@@ -324,6 +324,6 @@ union_value-returns-clause-ok t c =
     let m = c.in-Some-member_named.ensures in
     let is = picked c.args.def.now.members c.as_slice.result.now c.in-Some-member_named.n m.member c.index-as_slice-n.result c.as_slice.ensures m.there in
     let named = ap (λ k. member_named k c.args.def.now.members) (sym c.as_str.ensures.same) ∙ m.named in
-    let v = subst (λ (x : Member). Means c.args.acc.now (plainly x.ty) (data_of c.in-Some.tree) (value_of c.in_ok-val.val)) is c.in_ok-val.ensures.ok in
+    let v = subst (λ (x : Member). IsReadAs c.args.acc.now (plainly x.ty) (data_of c.in-Some.tree) (value_of c.in_ok-val.val)) is c.in_ok-val.ensures.ok in
     union_means c.args.acc.now c.args.slot c.args.def.now c.args.entries c.in-Some.name (data_of c.in-Some.tree) c.in-Some-member_named.n m.member c.in_ok-new.field-0 c.requires.form c.in-Some.ensures named
-    (subst (λ (w : Value). Means c.args.acc.now (plainly m.member.ty) (data_of c.in-Some.tree) w) (sym c.in_ok-new.ensures) v)
+    (subst (λ (w : Value). IsReadAs c.args.acc.now (plainly m.member.ty) (data_of c.in-Some.tree) w) (sym c.in_ok-new.ensures) v)
