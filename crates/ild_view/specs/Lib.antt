@@ -13,4 +13,5 @@ pub mod Reaches
 pub mod Roots
 pub mod Safe
 pub mod View
+pub mod LeftOut
 pub mod Whole

@@ -1,5 +1,5 @@
 //! The fields of structs.
-ghost use Rattle.std.specs.Prelude.{◌≡◌, ◌<◌, IfSome, List, Option, [], length, true};
+ghost use Rattle.std.specs.Prelude.{◌≡◌, ◌<◌, ◌↔◌, IfSome, List, None, Option, Some, [], length, true};
 ghost use Rattle.std.specs.Option.{option_and_then};
 ghost use Rattle.ild_data.specs.Data.{Data};
 ghost use Rattle.ild_schema.specs.Fitting.{ImplicitFits};
@@ -9,8 +9,10 @@ ghost use Rattle.ild_schema.specs.Value.{Value};
 ghost use Rattle.ild_schema.specs.declared.row.Row.{Row};
 ghost use Rattle.ild_struct.specs.Parts.{HasNumber, IsFieldPart};
 ghost use Rattle.ild_typed.specs.At.{seen};
+ghost use Rattle.ild_typed.specs.Fields.{is_implicit};
 ghost use Rattle.ild_view.specs.Body.{body_types, is_placed};
 ghost use Rattle.ild_view.specs.Itself.{Embodies};
+ghost use Rattle.ild_view.specs.View.{piece_in};
 
 use crate::body::Body;
 use crate::form::struct_in;
@@ -22,6 +24,7 @@ use ild_struct::{Part, layer};
 // What stands for a field, where it is present.
 fn body_of<'b>(field: &'b Field, part: Part<'b>) -> Option<Body<'b>>
     ensures embodies { (rows : List Row) (o : Option Data) → IsFieldPart rows field.now o part.entry → Embodies rows o result }
+    ensures left_out { (rows : List Row) (d : Data) → IsFieldPart rows field.now (Some d) part.entry → IfSome result (λ b. (piece_in b ≡ None) ↔ (is_implicit field.now.implicit d ≡ true)) }
     ensures free { HasNumber [] part.entry → IfSome result (λ b. body_types b ≡ 0) }
     ensures placed { HasNumber [] part.entry → (rows : List Row) → ImplicitFits rows field.now → IfSome result (λ b. is_placed rows field.now.slot b ≡ true) }
 {
@@ -46,13 +49,15 @@ fn number_of(acc: &Accepted, base: TypeNo, name: &str) -> Option<usize>
 }
 
 impl<'b> View<'b> {
+    ghost use Rattle.ild_view.specs.LeftOut.{TellsLeftOut};
     ghost use Rattle.ild_view.specs.Parts.{HandsOut, field_named};
     ghost use Rattle.ild_view.specs.View.{IsView, slot_of, table_of};
 
     /// The field of a struct that has a name, or `None` where it is absent, where no field has the name, and where the value is
-    /// no struct. A field that the block leaves out since it has its implicit value is present.
+    /// no struct. A field that the block leaves out since it has its implicit value is present: its view, and no other, is of no piece.
     pub fn field(&self, name: &str) -> Option<View<'b>>
-        ensures { (f : Value) → IsView self.now f → HandsOut (table_of self.now) (field_named (seen (table_of self.now) (slot_of self.now, f)) name.now) result }
+        ensures part { (f : Value) → IsView self.now f → HandsOut (table_of self.now) (field_named (seen (table_of self.now) (slot_of self.now, f)) name.now) result }
+        ensures left_out { (f : Value) → IsView self.now f → IfSome result (TellsLeftOut (table_of self.now) (slot_of self.now, f) name.now) }
     {
         self.acc.recall();
         if self.is_null_there() {
