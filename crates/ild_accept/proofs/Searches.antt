@@ -3,7 +3,7 @@ use Rattle.std.proofs.Common.{◌≡◌, ℕ, zero, suc, ◌+◌, ◌<◌, ◌�
 use Rattle.std.specs.Prelude.{◌==◌}
 use Rattle.std.specs.List.{Contains, list_any}
 use Rattle.std.specs.Bool.{MatchBool}
-use Rattle.std.proofs.lemmas.Bool.{cases_eq, eqb-true, eq-eqb, false≢true}
+use Rattle.std.proofs.lemmas.Bool.{cases_eq, eqb-true, eq-eqb, false≢true, or_left, or_right}
 use Rattle.std.proofs.lemmas.List.{get_or-set_other, get_or-set_same, get_or_default, length-set}
 use Rattle.std.proofs.lemmas.List.Sums.{sum_by-set}
 use Rattle.std.proofs.lemmas.List.Folds.{list_any-append}
@@ -38,14 +38,6 @@ or_cases : (a b : Bool) → a || b ≡ true → (a ≡ true) ⊎ (b ≡ true)
 or_cases true b h = inl refl
 or_cases false b h = inr h
 
-or_first : (a b : Bool) → a ≡ true → a || b ≡ true
-or_first true b h = refl
-or_first false b h = absurd (false≢true h)
-
-or_second : (a b : Bool) → b ≡ true → a || b ≡ true
-or_second true b h = refl
-or_second false b h = h
-
 -- ---- closed marks
 
 reach_done : (rows : List Row) (done : List Bool) → ((n t : ℕ) → Has done n → Contains (steps_at rows n) t → Has done t) → (k n m : ℕ) → Has done n → Reaches rows k n m → Has done m
@@ -55,10 +47,10 @@ reach_done rows done closed (suc k) n m h r = reach_done rows done closed k r.0 
 -- ---- types that wait
 
 waits_front : (s u : List ℕ) (m : ℕ) → Waits s m → Waits (s ++ u) m
-waits_front s u m h = list_any-append (λ x. x == m) s u ∙ or_first (list_any (λ x. x == m) s) (list_any (λ x. x == m) u) h
+waits_front s u m h = list_any-append (λ x. x == m) s u ∙ or_left (list_any (λ x. x == m) s) (list_any (λ x. x == m) u) h
 
 waits_last : (s : List ℕ) (t m : ℕ) → m ≡ t → Waits (s ++ t ∷ []) m
-waits_last s t m e = list_any-append (λ x. x == m) s (t ∷ []) ∙ or_second (list_any (λ x. x == m) s) ((t == m) || false) (or_first (t == m) false (eq-eqb t m (sym e)))
+waits_last s t m e = list_any-append (λ x. x == m) s (t ∷ []) ∙ or_right (list_any (λ x. x == m) s) ((t == m) || false) (or_left (t == m) false (eq-eqb t m (sym e)))
 
 waits_cases : (s : List ℕ) (t m : ℕ) → Waits (s ++ t ∷ []) m → Waits s m ⊎ (m ≡ t)
 waits_cases s t m h = elim (or_cases (list_any (λ x. x == m) s) ((t == m) || false) (sym (list_any-append (λ x. x == m) s (t ∷ [])) ∙ h)) [

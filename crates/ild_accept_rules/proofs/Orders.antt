@@ -6,7 +6,7 @@ use Rattle.std.specs.List.Sorted.{IsSearchInRange, IsBinarySearchResult, IsNonDe
 use Rattle.std.specs.Ordering.{ordering_index}
 use Rattle.std.specs.declared.cmp.Ordering.{Ordering}
 use Rattle.std.specs.declared.cmp.Ordering.TheVariants.{Less, Equal, Greater}
-use Rattle.std.proofs.lemmas.Bool.{cases_lt, cases_eq, le-ltb, lt-ltb, eq-eqb, ne_eqb}
+use Rattle.std.proofs.lemmas.Bool.{cases_lt, cases_eq, le-ltb, lt-ltb, eq-eqb, ne_eqb, or_right}
 use Rattle.std.proofs.lemmas.List.Folds.{list_any-append}
 use Rattle.std.proofs.lemmas.List.Edits.{get_or-insert_at, get_or-insert_below, get_or-insert_above, length-insert}
 use Rattle.ild_schema.specs.Prefixes.{touch}
@@ -94,15 +94,11 @@ is_equal Less = false
 is_equal Equal = true
 is_equal Greater = false
 
-or_true : (a b : Bool) → b ≡ true → a || b ≡ true
-or_true true b h = refl
-or_true false b h = h
-
 touch_is : (b a : List ℕ) → touch b a ≡ is_equal (prefix_cmp a b)
 unfolding is_equal
 touch_is [] [] = refl
 touch_is (y ∷ ys) [] = refl
-touch_is [] (x ∷ xs) = or_true (starts_with nat_eq [] (x ∷ xs)) (starts_with nat_eq (x ∷ xs) []) refl
+touch_is [] (x ∷ xs) = or_right (starts_with nat_eq [] (x ∷ xs)) (starts_with nat_eq (x ∷ xs) []) refl
 touch_is (y ∷ ys) (x ∷ xs) = elim (three x y) [
   | inl below ↦
       let t : nat_eq x y ≡ false = ne_eqb x y (λ e. absurd (omega arith)) in
@@ -128,7 +124,7 @@ touch_is (y ∷ ys) (x ∷ xs) = elim (three x y) [
 any_at : (t : List ℕ → Bool) (xs : List (List ℕ)) (i : ℕ) (d : List ℕ) → i < length xs → t (get_or xs i d) ≡ true → list_any t xs ≡ true
 any_at t [] i d within h = absurd (omega arith)
 any_at t (x ∷ xs) zero d within h = ap (λ b. b || list_any t xs) h
-any_at t (x ∷ xs) (suc i) d within h = or_true (t x) (list_any t xs) (any_at t xs i d (omega arith) h)
+any_at t (x ∷ xs) (suc i) d within h = or_right (t x) (list_any t xs) (any_at t xs i d (omega arith) h)
 
 none_at : (t : List ℕ → Bool) (xs : List (List ℕ)) → ((j : ℕ) (d : List ℕ) → j < length xs → t (get_or xs j d) ≡ false) → list_any t xs ≡ false
 none_at t [] h = refl

@@ -3,6 +3,7 @@ use Rattle.std.proofs.Common.{◌≡◌, ℕ, zero, suc, ◌+◌, ◌^◌, ◌==
 use Rattle.std.specs.List.{AllByRecursion, range_with_len}
 use Rattle.std.proofs.lemmas.Bool.{le-leb}
 use Rattle.std.proofs.lemmas.Option.{same_Some}
+use Rattle.ild_data.proofs.AllOf.{all_filter}
 use Rattle.ild_data.proofs.Lists.{items_list-items_of}
 use Rattle.ild_data.specs.Data as T
 use Rattle.ild_data.specs.Data.{Data}
@@ -19,7 +20,7 @@ use Rattle.ild_typed.proofs.Basics.{map_from}
 use Rattle.ild_data.specs.Spell.{spell, id_of}
 use Rattle.ild_data.specs.Tree.{IsTree}
 use Rattle.ild_typed.proofs.Treed.{EntryIn}
-use Rattle.ild_typed.proofs.TreeNodes.{node_of_in, part_in}
+use Rattle.ild_typed.proofs.TreeNodes.{node_of_in}
 use Rattle.ild_typed_places.specs.Places.{Places, nowhere, place, joined, places_over, node_place, bucket_or_node, places_beneath}
 use Rattle.ild_beneath.specs.Children.{AreOf, Child, children_in, element_children, entry_children, node_children}
 
@@ -94,7 +95,7 @@ module _ (rows : List Row) (ty : TypeNo) where
       each_slot at es inside deep (j ∷ js) slots is =
           let x = all_some-cons (slot_of most below (part at es j)) (map (λ i. slot_of most below (part at es i)) js) slots is in
           let all = both (told x.0) (flat_map (element_children f kind) (flat_map elements_of x.1)) (stand (part at es j)) (places_over (λ i. stand (part at es i)) js)
-          (one_slot (part at es j) x.0 x.2 (part_in (λ e. Of (f e.1) (inner e.0)) (λ e. at e.0 == j) es inside) (deep j)) (each_slot at es inside deep js x.1 x.3) in
+          (one_slot (part at es j) x.0 x.2 (all_filter (λ e. Of (f e.1) (inner e.0)) (λ e. at e.0 == j) es inside) (deep j)) (each_slot at es inside deep js x.1 x.3) in
           subst (λ ys. Of (flat_map (element_children f kind) (flat_map elements_of ys)) (places_over (λ i. stand (part at es i)) (j ∷ js))) (sym x.4)
           (subst (λ cs. Of cs (places_over (λ i. stand (part at es i)) (j ∷ js))) (sym (flat_append (element_children f kind) (elements_of x.0) (flat_map elements_of x.1))) all)
 
@@ -109,8 +110,8 @@ module _ (rows : List Row) (ty : TypeNo) where
           let below = node_of h p left (depth + 1) in
           let beneath = places_beneath inner h p left (depth + 1) in
           let deep : (i : ℕ) → Deep f p.bucket below beneath (part at es i) = λ i m there.
-          let mine : Inside deeper (part at es i) = part_in (λ e. Of (deeper e.1) (inner e.0)) (λ e. at e.0 == i) es more in
-          let standing : AllByRecursion (EntryIn room) (part at es i) = part_in (EntryIn room) (λ e. at e.0 == i) es trees in
+          let mine : Inside deeper (part at es i) = all_filter (λ e. Of (deeper e.1) (inner e.0)) (λ e. at e.0 == i) es more in
+          let standing : AllByRecursion (EntryIn room) (part at es i) = all_filter (EntryIn room) (λ e. at e.0 == i) es trees in
           let tree = node_of_in room h p left (depth + 1) (part at es i) m standing there in
           (tree.tree, subst (λ cs. Of cs (beneath (part at es i))) (sym (told_is m)) (node_tells deeper left (depth + 1) (part at es i) m there mine mine standing)) in
           let all = each_slot f p.bucket below beneath at es inside deep (range_with_len 0 (2 ^ p.width)) x.0 x.1 in

@@ -5,7 +5,9 @@ use Rattle.std.specs.List.{AllByRecursion}
 use Rattle.std.specs.Option.{option_map_or}
 use Rattle.std.specs.Cmp.Lexicographic.{same_text as text_same}
 use Rattle.std.proofs.lemmas.Option.{same_Some, none-some}
-use Rattle.std.proofs.lemmas.Bool.{eqb-true, eq-eqb}
+use Rattle.std.proofs.lemmas.Bool.{eqb-true, eq-eqb, and_parts}
+use Rattle.ild_typed.proofs.PartsTrees.{content_found}
+use Rattle.ild_data.proofs.Options.{none_is}
 use Rattle.ild_data.proofs.Lists.{items_list-items_of, members_list-members_of}
 use Rattle.ild_data.specs.Data as T
 use Rattle.ild_data.specs.Data.{Data}
@@ -36,12 +38,12 @@ use Rattle.ild_typed.specs.Named.{pair_entries, where_some}
 use Rattle.ild_typed.specs.Slots.{slot_of}
 use Rattle.ild_typed.specs.Strings.{text_in, bytes_in, members_in, text_pairs, texts_in, in_key_order, map_data, pair_data, listpairs, stringpairs, stringjoin}
 use Rattle.ild_typed.specs.Texts.{join, join_pairs}
-use Rattle.ild_typed.proofs.Basics.{then_from, map_from, true_from, both_true}
+use Rattle.ild_typed.proofs.Basics.{then_from, map_from, true_from}
 use Rattle.ild_typed.proofs.CleanPairs.{pairs_entries}
 use Rattle.ild_typed.proofs.Entries.{value_put, value_sorted, value_first, same_text_self}
 use Rattle.ild_typed.proofs.Flat.{IsFlat}
 use Rattle.ild_typed.proofs.Structs.{scalar_data, scalar_same, written, field_from, shown, look, past, not_there}
-use Rattle.ild_typed.proofs.Unions.{without_put, only_map_data, is_none_says}
+use Rattle.ild_typed.proofs.Unions.{without_put, only_map_data}
 use Rattle.ild_beneath.specs.Parts.{has_kind, has_text, layer_parts, map_parts, marked_part, member_part, named_part, named_parts, ordered_parts, parts_of, struct_parts, union_parts}
 
 -- ---- members of unions
@@ -83,12 +85,6 @@ text_member form ms n m a d apart at is =
 
 -- ---- what is put beside other entries
 
-content_at : (key content : List ℕ) (a d : Data) → (key ≡ content → ⊥) → value_at content (put key a ((content, d) ∷ [])) ≡ Some d
-content_at key content a d apart = value_put content key a ((content, d) ∷ []) ∙ by (same_text content key) refl ∙ value_first content d [] where
-  by : (b : Bool) → b ≡ same_text content key → cond b (Some a) (value_at content ((content, d) ∷ [])) ≡ value_at content ((content, d) ∷ [])
-  by true is = absurd (apart (sym (text_same content key is)))
-  by false is = refl
-
 put_there : (k : List ℕ) (a : Data) (ms : List (List ℕ × Data)) → value_at k (put k a ms) ≡ Some a
 put_there k a ms = value_put k k a ms ∙ value_first k a ms
 
@@ -114,7 +110,7 @@ absent_parts : (fs : List Field) (os : List (Option Data)) → are_absent fs os 
 absent_parts [] os e = refl
 absent_parts (f ∷ fs) [] e = refl
 absent_parts (f ∷ fs) (Some d ∷ os) e = let k : false ≡ true = e in absurd cc
-absent_parts (f ∷ fs) (None ∷ os) e = absent_parts fs os (both_true f.optional (are_absent fs os) e).1
+absent_parts (f ∷ fs) (None ∷ os) e = absent_parts fs os (and_parts f.optional (are_absent fs os) e).1
 
 no_items : (fs : List Field) → ordered_parts fs [] ≡ []
 no_items [] = refl
@@ -229,7 +225,7 @@ module _ {X : Type 0} (f : Part → List X) (none : (p : Part) → IsFlat p.1 �
       ap (union_parts (UF.Envelope key content) ms) (sym (same_Some (map_data es) t x.made))
       ∙ ap (λ z. marked_part ms (value_at key z) (value_at content z)) (members_list-members_of es)
       ∙ ap (λ z. marked_part ms z (value_at content es)) (put_there key (T.text x.item) ((content, d) ∷ []))
-      ∙ ap (λ z. marked_part ms (Some (T.text x.item)) z) (content_at key content (T.text x.item) d clear.keys)
+      ∙ ap (λ z. marked_part ms (Some (T.text x.item)) z) (content_found key content (T.text x.item) d clear.keys)
       ∙ text_member (UF.Envelope key content) ms n m x.item d (λ i j k l a b s c u. clear.apart i j k l a b (s, c, u)) at x.there
   of_member (UF.Inline key) ms clear n m d t at e hard =
       let x = then_from (marked_form (UF.Inline key) d) (mark_text m.mark) t e in
@@ -239,7 +235,7 @@ module _ {X : Type 0} (f : Part → List X) (none : (p : Part) → IsFlat p.1 �
       ap (union_parts (UF.Inline key) ms) (sym z.1)
       ∙ ap (λ q. marked_part ms (value_at key q) (Some (map_data (without key q)))) (members_list-members_of es)
       ∙ ap (λ q. marked_part ms q (Some (map_data (without key es)))) (put_there key (T.text x.item) y.item)
-      ∙ ap (λ q. member_part (has_text x.item) ms (map_data q)) (without_put key (T.text x.item) y.item (is_none_says (value_at key y.item) z.0))
+      ∙ ap (λ q. member_part (has_text x.item) ms (map_data q)) (without_put key (T.text x.item) y.item (none_is (value_at key y.item) z.0))
       ∙ ap (member_part (has_text x.item) ms) (sym (only_map_data d y.item y.there))
       ∙ text_member (UF.Inline key) ms n m x.item d (λ i j k l a b s c u. clear.apart i j k l a b (s, c, u)) at x.there
 

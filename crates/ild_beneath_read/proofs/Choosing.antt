@@ -13,6 +13,7 @@ use Rattle.ild_cbor.specs.declared.kind.Kind.TheVariants as K
 use Rattle.ild_cbor.specs.declared.node.Node.{Node}
 use Rattle.ild_cbor.specs.declared.piece.Piece.{Piece}
 use Rattle.ild_cbor.specs.declared.piece.Piece.TheVariants as Q
+use Rattle.ild_layer_fields.proofs.Pairing.{text_is}
 use Rattle.ild_data.specs.Data as T
 use Rattle.ild_data.specs.Data.{Data}
 use Rattle.ild_data.specs.Key.{same_text, value_at, without}
@@ -171,10 +172,6 @@ at_key (T.map ms) k n found = by (value_at k (T.members_list ms)) refl found whe
   by None is h = absurd h
   by (Some d) is h = record { members = ms; is = refl; value = d; there = is; stands = h }
 at_key t k n found = absurd found
-
-text_is : (d : Data) (k : List ℕ) → Some k ≡ text_found d → d ≡ T.text k
-text_is (T.text s) k e = ap T.text (sym (same_Some k s e))
-text_is d k e = absurd (none-some k (sym e))
 
 module _ (rows : List Row) (ms : List Member) (key : List ℕ) (t : Data) where
   module _ (content : List ℕ) where

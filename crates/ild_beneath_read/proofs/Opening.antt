@@ -1,14 +1,13 @@
 -- What pieces are opened as, by their types.
-use Rattle.std.proofs.Common.{◌≡◌, ℕ, suc, List, [], ◌∷◌, length, map, true, false, cond, codes, flat_map, Option, Some, None, refl, sym, ap, ◌∙◌, subst, arith}
-use Rattle.std.specs.List.{All, AllByRecursion}
+use Rattle.std.proofs.Common.{◌≡◌, ℕ, suc, List, [], length, true, false, cond, codes, flat_map, Option, Some, None, refl, sym, ap, ◌∙◌, subst}
 use Rattle.std.specs.Option.{option_and_then, option_map_or}
-use Rattle.std.specs.Prelude.{◌<◌}
 use Rattle.ild_beneath.specs.Children.{by_form, found, kind_in, node_children}
 use Rattle.ild_beneath.specs.Parts.{is_flat, map_parts, named_parts, ordered_parts, parts_of, struct_parts}
 use Rattle.ild_cbor.specs.Scalar.{kind_of}
 use Rattle.ild_cbor.specs.Steps.{HasItems}
 use Rattle.ild_cbor.specs.declared.items.Items.{Items}
 use Rattle.ild_cbor.specs.declared.node.Node.{Node}
+use Rattle.ild_typed.proofs.WalkForms.{each_number}
 use Rattle.ild_data.proofs.Lists.{items_of-items_list}
 use Rattle.ild_data.specs.Data as T
 use Rattle.ild_data.specs.Data.{Data}
@@ -133,10 +132,6 @@ pub clear_listed : (s : StructDef) → s.form ≡ S.ListPairs → ClearType (D.S
 clear_listed s is clear = (subst (λ f. ClearStruct f s.fields) is clear).apart
 
 -- ---- the types of parts
-
-each_number : {A : Type 0} (f : A → ℕ) (count : ℕ) (xs : List A) → All (λ n. n < count) (map f xs) → AllByRecursion (λ x. f x < count) xs
-each_number f count [] all = tt
-each_number f count (x ∷ xs) all = (all 0 0 (omega arith), each_number f count xs (λ i d h. all (suc i) d (omega (arith, h))))
 
 pub fields_in : (rows : List Row) (s : StructDef) → IsWithin (length rows) (D.Struct s) → FieldsIn rows s.fields
 fields_in rows s within = each_number (λ (f : Field). f.slot.ty.0) (length rows) s.fields within.1

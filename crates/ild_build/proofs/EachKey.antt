@@ -2,6 +2,7 @@
 use Rattle.std.proofs.Common.{◌≡◌, ◌⊎◌, inl, inr, ℕ, zero, suc, ◌+◌, ◌<◌, ◌≤◌, List, [], ◌∷◌, length, Some, None, slice_get, refl, sym, ◌∙◌, ap, subst, arith}
 use Rattle.std.specs.List.{AllByRecursion}
 use Rattle.std.proofs.lemmas.Option.{same_Some, none-some}
+use Rattle.ild_data.proofs.AllOf.{all_at}
 use Rattle.ild_data.specs.Data as T
 use Rattle.ild_data.specs.Data.{Data, depth}
 use Rattle.ild_data.specs.declared.tree.Tree.{Tree}
@@ -50,11 +51,6 @@ all_before P [] i h all = tt
 all_before P (x ∷ xs) zero h all = absurd (omega (arith, h))
 all_before P (x ∷ xs) (suc i) h all = (all 0 x (omega arith) refl, all_before P xs i (omega (arith, h)) (λ j y k e. all (suc j) y (omega (arith, k)) e))
 
-pub one_of : {A : Type 0} (P : A → Type 0) (xs : List A) (i : ℕ) (x : A) → AllByRecursion P xs → slice_get xs i ≡ Some x → P x
-one_of P [] i x all e = absurd (none-some x e)
-one_of P (y ∷ xs) zero x all e = subst P (same_Some y x e) all.0
-one_of P (y ∷ xs) (suc i) x all e = one_of P xs i x all.1 e
-
 -- ---- keys of a layer
 
 pub keys_all : (P Q : Slot → Value → Type 0) (rows : List Row) (d : TypeDef) (v : Value) (key : TypeNo) (key_at : ℕ) (value : Slot) (place : ℕ) (form : MapForm) (ps : Pairs) (i : ℕ)
@@ -74,7 +70,7 @@ keys_all P Q rows d v key key_at value place form ps i is map le before typed =
 pub a_key : (P : Slot → Value → Type 0) (rows : List Row) (d : TypeDef) (v : Value) (key : TypeNo) (key_at : ℕ) (value : Slot) (place : ℕ) (form : MapForm) (ps : Pairs) (i : ℕ) (p : List ℕ × Value)
     → d ≡ D.Map key key_at value place form → v ≡ V.map ps → slice_get (pairs_list ps) i ≡ Some p → KeysIn P rows d v → RepresentsSome P rows (plainly key) (T.text p.0)
 a_key P rows d v key key_at value place form ps i p is map at h =
-    one_of (λ (q : List ℕ × Value). RepresentsSome P rows (plainly key) (T.text q.0)) (pairs_list ps) i p (subst (λ x. KeysIn P rows (D.Map key key_at value place form) x) map (subst (λ c. KeysIn P rows c v) is h)) at
+    all_at (λ (q : List ℕ × Value). RepresentsSome P rows (plainly key) (T.text q.0)) (pairs_list ps) i p (subst (λ x. KeysIn P rows (D.Map key key_at value place form) x) map (subst (λ c. KeysIn P rows c v) is h)) at
 
 -- ---- values of Any, and values of the program
 

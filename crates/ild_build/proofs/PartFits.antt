@@ -3,6 +3,8 @@ use Rattle.std.proofs.Common.{◌≡◌, ℕ, zero, suc, ◌+◌, ◌<◌, not, 
 use Rattle.std.specs.Prelude.{IsUtf8, option_and_then}
 use Rattle.std.specs.List.{AllByRecursion}
 use Rattle.std.proofs.lemmas.Option.{same_Some, none-some}
+use Rattle.std.proofs.lemmas.Bool.{and_parts}
+use Rattle.ild_data.proofs.AllOf.{all_at}
 use Rattle.ild_data.specs.Data as T
 use Rattle.ild_data.specs.Data.{Data}
 use Rattle.ild_schema.specs.declared.number.Slot.{Slot}
@@ -39,7 +41,7 @@ use Rattle.ild_typed.specs.Hamt.{whole, alone}
 use Rattle.ild_typed.proofs.OneLayer.{in_layer, of_layer}
 use Rattle.ild_typed.proofs.TreeParts.{list_fits, struct_fits, union_fits, map_fits}
 use Rattle.ild_typed.specs.Strings.{text_in}
-use Rattle.ild_typed.proofs.Basics.{then_from, both_true}
+use Rattle.ild_typed.proofs.Basics.{then_from}
 use Rattle.ild_typed.proofs.Entries.{only_text_data}
 use Rattle.ild_typed.proofs.Judging.{tree_sound}
 use Rattle.ild_typed.proofs.OfKinds.{any_at}
@@ -49,11 +51,6 @@ use Rattle.ild_typed.proofs.Flat.{flat_text, flat_alone, flat_whole}
 use Rattle.ild_build.specs.PartAt.{field_at, member_at, value_part_at}
 use Rattle.ild_build.specs.TextRep.{text_rep, TextAnswer, is_text_map, is_text_struct, is_text_layer}
 use Rattle.ild_build.proofs.PartTests.{at_of, entry_of, field_is, field_slot_of, only_member, part_lower, parts_none, by_part}
-
-all_at : {X : Type 0} (P : X → Type 0) (xs : List X) (i : ℕ) (x : X) → AllByRecursion P xs → slice_get xs i ≡ Some x → P x
-all_at P [] i x all e = absurd (none-some x e)
-all_at P (y ∷ xs) zero x all e = subst P (same_Some y x e) all.0
-all_at P (y ∷ xs) (suc i) x all e = all_at P xs i x all.1 e
 
 -- ---- what fits
 
@@ -247,20 +244,20 @@ text_whole h rows s v t e =
 
 are_whole_at : (vs : Values) (i : ℕ) (w : Value) → are_whole vs ≡ true → slice_get (values_list vs) i ≡ Some w → is_whole w ≡ true
 are_whole_at V.no_values i w h e = absurd (none-some w e)
-are_whole_at (V.value v vs) zero w h e = ap is_whole (sym (same_Some v w e)) ∙ (both_true (is_whole v) (are_whole vs) h).0
-are_whole_at (V.value v vs) (suc i) w h e = are_whole_at vs i w (both_true (is_whole v) (are_whole vs) h).1 e
+are_whole_at (V.value v vs) zero w h e = ap is_whole (sym (same_Some v w e)) ∙ (and_parts (is_whole v) (are_whole vs) h).0
+are_whole_at (V.value v vs) (suc i) w h e = are_whole_at vs i w (and_parts (is_whole v) (are_whole vs) h).1 e
 
 pairs_whole_at : (ps : Pairs) (i : ℕ) (p : List ℕ × Value) → pairs_whole ps ≡ true → slice_get (pairs_list ps) i ≡ Some p → is_whole p.1 ≡ true
 pairs_whole_at V.no_pairs i p h e = absurd (none-some {A = List ℕ × Value} p e)
-pairs_whole_at (V.pair k v ps) zero p h e = ap (λ (q : List ℕ × Value). is_whole q.1) (sym (same_Some {A = List ℕ × Value} (k, v) p e)) ∙ (both_true (is_whole v) (pairs_whole ps) h).0
-pairs_whole_at (V.pair k v ps) (suc i) p h e = pairs_whole_at ps i p (both_true (is_whole v) (pairs_whole ps) h).1 e
+pairs_whole_at (V.pair k v ps) zero p h e = ap (λ (q : List ℕ × Value). is_whole q.1) (sym (same_Some {A = List ℕ × Value} (k, v) p e)) ∙ (and_parts (is_whole v) (pairs_whole ps) h).0
+pairs_whole_at (V.pair k v ps) (suc i) p h e = pairs_whole_at ps i p (and_parts (is_whole v) (pairs_whole ps) h).1 e
 
 fields_whole_at : (os : Optionals) (i : ℕ) (w : Value) → fields_whole os ≡ true → slice_get (optionals_list os) i ≡ Some (Some w) → is_whole w ≡ true
 fields_whole_at V.no_optionals i w h e = absurd (none-some {A = Option Value} (Some w) e)
 fields_whole_at (V.absent os) zero w h e = absurd (none-some w (same_Some {A = Option Value} None (Some w) e))
 fields_whole_at (V.absent os) (suc i) w h e = fields_whole_at os i w h e
-fields_whole_at (V.present v os) zero w h e = ap is_whole (sym (same_Some v w (same_Some (Some v) (Some w) e))) ∙ (both_true (is_whole v) (fields_whole os) h).0
-fields_whole_at (V.present v os) (suc i) w h e = fields_whole_at os i w (both_true (is_whole v) (fields_whole os) h).1 e
+fields_whole_at (V.present v os) zero w h e = ap is_whole (sym (same_Some v w (same_Some (Some v) (Some w) e))) ∙ (and_parts (is_whole v) (fields_whole os) h).0
+fields_whole_at (V.present v os) (suc i) w h e = fields_whole_at os i w (and_parts (is_whole v) (fields_whole os) h).1 e
 
 pub part_whole : (d : Option TypeDef) (v : Value) (i : ℕ) (u : Slot) (w : Value) → value_part_at d v i ≡ Some (u, w) → is_whole v ≡ true → is_whole w ≡ true
 part_whole d (V.list vs) i u w e h = are_whole_at vs i w h (at_of (element_of d) (slice_get (values_list vs) i) u w e).value
@@ -281,7 +278,7 @@ part_is_typed rows s v d is typed i u w e =
 
 -- ---- layers in text form
 
-kind_text : (k : KindWord) → same_kind K.Text k ≡ true → k ≡ K.Text
+pub kind_text : (k : KindWord) → same_kind K.Text k ≡ true → k ≡ K.Text
 kind_text K.Text e = refl
 kind_text K.Null e = absurd cc
 kind_text K.Bool e = absurd cc

@@ -1,9 +1,10 @@
 -- A test of every layer of a value is a test of the layer and of its parts by their places; and parts nest less deep.
-use Rattle.std.proofs.Common.{◌≡◌, ◌⊎◌, inl, inr, ℕ, zero, suc, ◌+◌, ◌<◌, ◌≤◌, List, [], ◌∷◌, Bool, true, false, ◌||◌, nat_lt, Option, Some, None, option_map, slice_get, refl, sym, ◌∙◌, ap, subst, arith}
+use Rattle.std.proofs.Common.{◌≡◌, ◌⊎◌, inl, inr, ℕ, zero, suc, ◌+◌, ◌<◌, ◌≤◌, List, [], ◌∷◌, Bool, true, false, nat_lt, Option, Some, None, option_map, slice_get, refl, sym, ◌∙◌, ap, subst, arith}
 use Rattle.std.specs.Prelude.{option_and_then}
 use Rattle.std.proofs.lemmas.Bool.Decides.{nat_tests}
 use Rattle.std.specs.Option.{option_map_or}
 use Rattle.std.proofs.lemmas.Option.{same_Some, none-some, slice_get_within}
+use Rattle.std.proofs.lemmas.Bool.{or_left, or_right, or_from}
 use Rattle.ild_schema.specs.declared.number.Slot.{Slot}
 use Rattle.ild_schema.specs.declared.def.TypeDef.{TypeDef}
 use Rattle.ild_schema.specs.declared.def.Field.{Field}
@@ -108,18 +109,6 @@ part_lower d v i u w e = absurd (none-some {A = Slot × Value} (u, w) e)
 
 -- ---- tests of every layer
 
-or_left : (a b : Bool) → a ≡ true → (a || b) ≡ true
-or_left true b e = refl
-or_left false b e = absurd cc
-
-or_right : (a b : Bool) → b ≡ true → (a || b) ≡ true
-or_right true b e = refl
-or_right false b e = e
-
-or_none : (a b : Bool) → a ≡ false → b ≡ false → (a || b) ≡ false
-or_none true b x y = absurd cc
-or_none false b x y = y
-
 pub placed : (os : Option Slot) (ov : Option Value) (u : Slot) (w : Value) → os ≡ Some u → ov ≡ Some w → in_slot os ov ≡ Some (u, w)
 placed os ov u w a b = ap (λ o. in_slot o ov) a ∙ ap (in_slot (Some u)) b
 
@@ -177,11 +166,11 @@ module _ (test : Option TypeDef → Value → Bool) (rows : List Row) where
 
   values_none : (u : Slot) (vs : Values) → ((i : ℕ) (w : Value) → slice_get (values_list vs) i ≡ Some w → some_layer test rows u w ≡ false) → some_value test rows u vs ≡ false
   values_none u V.no_values all = refl
-  values_none u (V.value v vs) all = or_none (some_layer test rows u v) (some_value test rows u vs) (all 0 v refl) (values_none u vs (λ i w e. all (suc i) w e))
+  values_none u (V.value v vs) all = or_from (some_layer test rows u v) (some_value test rows u vs) (all 0 v refl) (values_none u vs (λ i w e. all (suc i) w e))
 
   pairs_none : (u : Slot) (ps : Pairs) → ((i : ℕ) (p : List ℕ × Value) → slice_get (pairs_list ps) i ≡ Some p → some_layer test rows u p.1 ≡ false) → some_pair test rows u ps ≡ false
   pairs_none u V.no_pairs all = refl
-  pairs_none u (V.pair k v ps) all = or_none (some_layer test rows u v) (some_pair test rows u ps) (all 0 (k, v) refl) (pairs_none u ps (λ i p e. all (suc i) p e))
+  pairs_none u (V.pair k v ps) all = or_from (some_layer test rows u v) (some_pair test rows u ps) (all 0 (k, v) refl) (pairs_none u ps (λ i p e. all (suc i) p e))
 
   fields_none : (fs : List Field) (os : Optionals) → ((i : ℕ) (f : Field) (w : Value) → slice_get fs i ≡ Some f → slice_get (optionals_list os) i ≡ Some (Some w) → some_layer test rows f.slot w ≡ false)
       → some_field test rows fs os ≡ false
@@ -190,7 +179,7 @@ module _ (test : Option TypeDef → Value → Bool) (rows : List Row) where
   fields_none [] (V.present v os) all = refl
   fields_none (f ∷ fs) (V.absent os) all = fields_none fs os (λ i g w a b. all (suc i) g w a b)
   fields_none (f ∷ fs) (V.present v os) all =
-      or_none (some_layer test rows f.slot v) (some_field test rows fs os) (all 0 f v refl refl) (fields_none fs os (λ i g w a b. all (suc i) g w a b))
+      or_from (some_layer test rows f.slot v) (some_field test rows fs os) (all 0 f v refl refl) (fields_none fs os (λ i g w a b. all (suc i) g w a b))
 
   given_none : (f : Slot → Bool) (o : Option Slot) → ((u : Slot) → o ≡ Some u → f u ≡ false) → option_map_or f o false ≡ false
   given_none f None all = refl
@@ -201,21 +190,21 @@ module _ (test : Option TypeDef → Value → Bool) (rows : List Row) where
       → some_layer test rows s v ≡ false
   parts_none s (V.list vs) here all =
       let d = form_of rows s in
-      or_none (test d (V.list vs)) (option_map_or (λ x. some_value test rows x vs) (element_of d) false) here
+      or_from (test d (V.list vs)) (option_map_or (λ x. some_value test rows x vs) (element_of d) false) here
       (given_none (λ x. some_value test rows x vs) (element_of d) (λ u is. values_none u vs (λ i w e. all i u w (placed (element_of d) (slice_get (values_list vs) i) u w is e))))
   parts_none s (V.map ps) here all =
       let d = form_of rows s in
-      or_none (test d (V.map ps)) (option_map_or (λ y. some_pair test rows y ps) (element_of d) false) here
+      or_from (test d (V.map ps)) (option_map_or (λ y. some_pair test rows y ps) (element_of d) false) here
       (given_none (λ y. some_pair test rows y ps) (element_of d) (λ u is. pairs_none u ps (λ i p e.
       all i u p.1 (placed (element_of d) (option_map (λ (q : List ℕ × Value). q.1) (slice_get (pairs_list ps) i)) u p.1 is (ap (option_map (λ (q : List ℕ × Value). q.1)) e)))))
   parts_none s (V.struct os) here all =
       let d = form_of rows s in
-      or_none (test d (V.struct os)) (some_field test rows (fields_of d) os) here
+      or_from (test d (V.struct os)) (some_field test rows (fields_of d) os) here
       (fields_none (fields_of d) os (λ i f w a b.
       all i f.slot w (placed (option_map (λ (g : Field). g.slot) (slice_get (fields_of d) i)) (field_at (optionals_list os) i) f.slot w (ap (option_map (λ (g : Field). g.slot)) a) (ap (option_and_then (λ (x : Option Value). x)) b))))
   parts_none s (V.union n v) here all =
       let d = form_of rows s in
-      or_none (test d (V.union n v)) (option_map_or (λ x. some_layer test rows x v) (member_of d n) false) here
+      or_from (test d (V.union n v)) (option_map_or (λ x. some_layer test rows x v) (member_of d n) false) here
       (given_none (λ x. some_layer test rows x v) (member_of d n) (λ u is. all 0 u v (placed (member_of d n) (Some v) u v is refl)))
   parts_none s v here all = refl
 

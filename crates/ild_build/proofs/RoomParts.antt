@@ -3,8 +3,9 @@ use Rattle.std.proofs.Common.{◌≡◌, ℕ, zero, suc, ◌+◌, ◌-◌, ◌<�
 use Rattle.std.specs.Prelude.{IsUtf8, IsSomeAnd, option_and_then}
 use Rattle.std.specs.List.{AllByRecursion}
 use Rattle.std.proofs.lemmas.Option.{same_Some, none-some, slice_get_within}
+use Rattle.ild_data.proofs.AllOf.{all_indexed}
 use Rattle.ild_data.specs.Data as T
-use Rattle.ild_data.specs.Data.{Data, depth}
+use Rattle.ild_data.specs.Data.{Data}
 use Rattle.ild_schema.specs.declared.number.Slot.{Slot}
 use Rattle.ild_schema.specs.declared.number.TypeNo.{TypeNo}
 use Rattle.ild_schema.specs.declared.def.TypeDef.{TypeDef}
@@ -134,10 +135,6 @@ null_room rows (suc room) s h = h
 
 -- ---- layers by their parts
 
-all_by : {X : Type 0} (P : X → Type 0) (xs : List X) → ((i : ℕ) (x : X) → slice_get xs i ≡ Some x → P x) → AllByRecursion P xs
-all_by P [] all = tt
-all_by P (x ∷ xs) all = (all 0 x refl, all_by P xs (λ i y e. all (suc i) y e))
-
 module _ (rows : List Row) (P : Slot → Value → Type 0) where
   fields_by : (fs : List Field) (os : List (Option Value)) → FieldsFit (OfType rows) fs os → ((i : ℕ) (f : Field) (w : Value) → slice_get fs i ≡ Some f → slice_get os i ≡ Some (Some w) → P f.slot w) → FieldsFit P fs os
   fields_by [] [] h all = tt
@@ -164,7 +161,7 @@ module _ (rows : List Row) (P : Slot → Value → Type 0) where
       let same = same_Some (L.list (values_list vs)) l is in
       let x = list_form rows (OfType rows) d (values_list vs) (subst (LayerFits (OfType rows) rows d) (sym same) h) in
       subst (LayerFits P rows d) same (subst (λ c. LayerFits P rows c (L.list (values_list vs))) (sym x.2)
-      (all_by (P x.0) (values_list vs) (λ i w e. all i x.0 w (placed (element_of (Some d)) (slice_get (values_list vs) i) x.0 w (ap (λ c. element_of (Some c)) x.2) e))))
+      (all_indexed (P x.0) (values_list vs) (λ i w e. all i x.0 w (placed (element_of (Some d)) (slice_get (values_list vs) i) x.0 w (ap (λ c. element_of (Some c)) x.2) e))))
   layer_by d (V.map ps) l is hamt h all keys =
       let same = same_Some (L.map (pairs_list ps)) l is in
       let x = map_form rows (OfType rows) d (pairs_list ps) (subst (LayerFits (OfType rows) rows d) (sym same) h) in

@@ -1,5 +1,5 @@
 -- Texts as they are appended part by part: what was appended stands in front of what is still to come.
-use Rattle.std.proofs.Common.{◌≡◌, ℕ, zero, suc, ◌+◌, ◌<◌, ◌≤◌, List, [], ◌∷◌, ◌++◌, length, drop, map, Bool, true, false, cond, ◌&&◌, Option, Some, None, option_map, slice_get, refl, sym, ◌∙◌, ap, arith, append_assoc, append-nil, length-append, add-one}
+use Rattle.std.proofs.Common.{◌≡◌, ℕ, zero, suc, ◌+◌, ◌<◌, List, [], ◌∷◌, ◌++◌, length, drop, map, Bool, true, false, cond, ◌&&◌, Option, Some, None, option_map, refl, sym, ◌∙◌, ap, arith, append_assoc, append-nil, length-append}
 use Rattle.std.specs.Prelude.{option_and_then}
 use Rattle.std.specs.List.{list_all}
 use Rattle.std.proofs.lemmas.List.{map-append, length-map}
@@ -194,17 +194,3 @@ pairs_apart rows (f ∷ fs) (Some v ∷ os) h = by (is_left_out f.implicit v) (t
     by true o e = e
     by false None e = refl
     by false (Some t) e = ap (option_map (λ ts. (field_text f, t) ∷ ts)) e
-
-drop_next : {A : Type 0} (xs : List A) (i : ℕ) (x : A) → slice_get xs i ≡ Some x → drop i xs ≡ x ∷ drop (suc i) xs
-drop_next [] i x e = absurd (none-some x e)
-drop_next (y ∷ xs) zero x e = ap (λ z. z ∷ xs) (same_Some y x e)
-drop_next (y ∷ xs) (suc i) x e = drop_next xs i x e
-
-pub drop_got : {A : Type 0} (xs : List A) (i : ℕ) (x : A) → slice_get xs i ≡ Some x → drop i xs ≡ x ∷ drop (i + 1) xs
-drop_got xs i x e = drop_next xs i x e ∙ ap (λ k. x ∷ drop k xs) (sym (add-one i))
-
-pub drop_all : {A : Type 0} (xs : List A) (i : ℕ) → length xs ≤ i → drop i xs ≡ []
-drop_all [] zero h = refl
-drop_all [] (suc i) h = refl
-drop_all (x ∷ xs) zero h = absurd (omega (arith, h))
-drop_all (x ∷ xs) (suc i) h = drop_all xs i (omega (arith, h))

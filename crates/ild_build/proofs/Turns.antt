@@ -4,6 +4,7 @@ use Rattle.std.specs.Prelude.{IsUtf8, option_and_then, Result, IfOk}
 use Rattle.std.specs.Str.{IsCharBoundary}
 use Rattle.std.proofs.Math.Seq.{drop-append_seam}
 use Rattle.std.proofs.lemmas.Option.{none-some}
+use Rattle.ild_data.proofs.Gets.{got_at, drop_at}
 use Rattle.ild_schema.specs.declared.number.Slot.{Slot}
 use Rattle.ild_schema.specs.declared.def.Field.{Field}
 use Rattle.ild_schema.specs.declared.row.Row.{Row}
@@ -30,17 +31,11 @@ use Rattle.ild_build.specs.TextRep.{text_rep, Appended, TextAnswer}
 use Rattle.ild_build.specs.inside.TextParts.{field_texts, field_pairs, entry_texts, pair_added}
 use Rattle.ild_build.proofs.PartTests.{field_is}
 use Rattle.ild_build.proofs.Seams.{seam}
-use Rattle.ild_build.proofs.Texting.{drop_got}
 
 -- ---- what stands at a place
 
-pub item_got : {A : Type 0} (xs : List A) (i : ℕ) (x : A) → i < length xs → x ≡ get_or xs i x → slice_get xs i ≡ Some x
-item_got [] i x h e = absurd (omega (arith, h))
-item_got (y ∷ xs) zero x h e = ap Some (sym e)
-item_got (y ∷ xs) (suc i) x h e = item_got xs i x (omega (arith, h)) e
-
 pub got : {A : Type 0} (xs ys : List A) (i : ℕ) (x : A) → xs ≡ ys → i < length xs → x ≡ get_or xs i x → slice_get ys i ≡ Some x
-got xs ys i x same h e = subst (λ zs. slice_get zs i ≡ Some x) same (item_got xs i x h e)
+got xs ys i x same h e = subst (λ zs. slice_get zs i ≡ Some x) same (got_at xs i x h e)
 
 pub value_got : (os : List (Option Value)) (i : ℕ) (v : Value) → field_at os i ≡ Some v → slice_get os i ≡ Some (Some v)
 value_got os i v e = field_is os i v (slice_get os i) refl e
@@ -55,28 +50,28 @@ module _ (rows : List Row) where
   pub turn_text : (fs : List Field) (os : List (Option Value)) (i : ℕ) (f : Field) (v : Value) → slice_get fs i ≡ Some f → field_at os i ≡ Some v
       → field_texts rows (drop i fs) (drop i os) ≡ cons_both (text_rep rows f.slot v) (field_texts rows (drop (i + 1) fs) (drop (i + 1) os))
   turn_text fs os i f v a b =
-      ap (λ xs. field_texts rows xs (drop i os)) (drop_got fs i f a) ∙ ap (λ xs. field_texts rows (f ∷ drop (i + 1) fs) xs) (drop_got os i (Some v) (value_got os i v b))
+      ap (λ xs. field_texts rows xs (drop i os)) (drop_at fs i f a) ∙ ap (λ xs. field_texts rows (f ∷ drop (i + 1) fs) xs) (drop_at os i (Some v) (value_got os i v b))
 
   pub turn_no_text : (fs : List Field) (os : List (Option Value)) (i : ℕ) (f : Field) → slice_get fs i ≡ Some f → i < length os → field_at os i ≡ None → field_texts rows (drop i fs) (drop i os) ≡ None
   turn_no_text fs os i f a h b =
-      ap (λ xs. field_texts rows xs (drop i os)) (drop_got fs i f a) ∙ ap (λ xs. field_texts rows (f ∷ drop (i + 1) fs) xs) (drop_got os i None (none_got os i h b))
+      ap (λ xs. field_texts rows xs (drop i os)) (drop_at fs i f a) ∙ ap (λ xs. field_texts rows (f ∷ drop (i + 1) fs) xs) (drop_at os i None (none_got os i h b))
 
   pub turn_pair : (fs : List Field) (os : List (Option Value)) (i : ℕ) (f : Field) (v : Value) (b : Bool) → slice_get fs i ≡ Some f → field_at os i ≡ Some v → is_left_out f.implicit v ≡ b
       → field_pairs rows (drop i fs) (drop i os)
       ≡ cond b (field_pairs rows (drop (i + 1) fs) (drop (i + 1) os)) (cons_both (option_map {U = List ℕ × List ℕ} (λ t. (field_text f, t)) (text_rep rows f.slot v)) (field_pairs rows (drop (i + 1) fs) (drop (i + 1) os)))
   turn_pair fs os i f v b at value is =
-      ap (λ xs. field_pairs rows xs (drop i os)) (drop_got fs i f at) ∙ ap (λ xs. field_pairs rows (f ∷ drop (i + 1) fs) xs) (drop_got os i (Some v) (value_got os i v value))
+      ap (λ xs. field_pairs rows xs (drop i os)) (drop_at fs i f at) ∙ ap (λ xs. field_pairs rows (f ∷ drop (i + 1) fs) xs) (drop_at os i (Some v) (value_got os i v value))
       ∙ ap (λ c. cond c (field_pairs rows (drop (i + 1) fs) (drop (i + 1) os)) (cons_both (option_map {U = List ℕ × List ℕ} (λ t. (field_text f, t)) (text_rep rows f.slot v)) (field_pairs rows (drop (i + 1) fs) (drop (i + 1) os)))) is
 
   pub turn_no_pair : (fs : List Field) (os : List (Option Value)) (i : ℕ) (f : Field) (b : Bool) → slice_get fs i ≡ Some f → i < length os → field_at os i ≡ None → f.optional ≡ b
       → field_pairs rows (drop i fs) (drop i os) ≡ cond b (field_pairs rows (drop (i + 1) fs) (drop (i + 1) os)) None
   turn_no_pair fs os i f b at h none is =
-      ap (λ xs. field_pairs rows xs (drop i os)) (drop_got fs i f at) ∙ ap (λ xs. field_pairs rows (f ∷ drop (i + 1) fs) xs) (drop_got os i None (none_got os i h none))
+      ap (λ xs. field_pairs rows xs (drop i os)) (drop_at fs i f at) ∙ ap (λ xs. field_pairs rows (f ∷ drop (i + 1) fs) xs) (drop_at os i None (none_got os i h none))
       ∙ ap (λ c. cond c (field_pairs rows (drop (i + 1) fs) (drop (i + 1) os)) None) is
 
   pub turn_entry : (value : Slot) (ps : List (List ℕ × Value)) (i : ℕ) (k : List ℕ) (v : Value) → slice_get ps i ≡ Some (k, v)
       → entry_texts rows value (drop i ps) ≡ cons_both (option_map {U = List ℕ × List ℕ} (λ t. (k, t)) (text_rep rows value v)) (entry_texts rows value (drop (i + 1) ps))
-  turn_entry value ps i k v e = ap (entry_texts rows value) (drop_got {A = List ℕ × Value} ps i (k, v) e)
+  turn_entry value ps i k v e = ap (entry_texts rows value) (drop_at {X = List ℕ × Value} ps i (k, v) e)
 
 -- ---- answers
 

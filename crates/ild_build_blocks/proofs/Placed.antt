@@ -1,10 +1,12 @@
 -- Blocks behind their children in the HAMTs of a value are so at its places.
-use Rattle.std.proofs.Common.{◌≡◌, ◌⊎◌, inl, inr, ⊎_elim, ℕ, zero, suc, ◌+◌, ◌≤◌, ◌<◌, Bool, true, false, ◌||◌, ◌&&◌, cond, List, [], ◌∷◌, ◌++◌, length, Option, Some, None, refl, sym, subst, arith}
-use Rattle.std.specs.Prelude.{Contains, is_some, slice_get, slice_index_or}
+use Rattle.std.proofs.Common.{◌≡◌, ◌⊎◌, inl, inr, ⊎_elim, ℕ, zero, suc, ◌+◌, ◌≤◌, Bool, true, false, ◌||◌, ◌&&◌, cond, List, [], ◌∷◌, ◌++◌, Option, Some, None, refl, sym, subst, arith}
+use Rattle.std.specs.Prelude.{Contains, is_some, slice_get}
 use Rattle.std.specs.Option.{option_map_or}
 use Rattle.std.specs.Cmp.Lexicographic.{same_text as text_same}
 use Rattle.std.proofs.lemmas.Bool.{and_parts}
-use Rattle.ild_typed.specs.Among.{AreAmong}
+use Rattle.ild_bulk_places.proofs.Ordering.{contains_right, contains_left}
+use Rattle.ild_data.proofs.AllOf.{contains_more}
+use Rattle.ild_data.specs.Among.{AreAmong}
 use Rattle.ild_data.specs.Data.{Data}
 use Rattle.ild_data.specs.Key.{same_text}
 use Rattle.ild_data.specs.ByteOrder.{in_byte_order}
@@ -38,9 +40,6 @@ or_true : (a b : Bool) → (a || b) ≡ true → (a ≡ true) ⊎ (b ≡ true)
 or_true true b e = inl refl
 or_true false b e = inr e
 
-contains_more : {X : Type 0} (y : X) (ys : List X) (x : X) → Contains ys x → Contains (y ∷ ys) x
-contains_more y ys x here = (suc here.0, (let lt = here.1 in omega (arith, lt)), here.2)
-
 is_from : (b : List ℕ) (cs : List (List ℕ)) → is_among b cs ≡ true → Contains cs b
 is_from b [] e = absurd cc
 is_from b (c ∷ cs) e = ⊎_elim (λ x. (zero, omega arith, sym (text_same b c (sym x)))) (λ x. contains_more c cs b (is_from b cs x)) (or_true (same_text b c) (is_among b cs) e)
@@ -48,17 +47,6 @@ is_from b (c ∷ cs) e = ⊎_elim (λ x. (zero, omega arith, sym (text_same b c 
 are_from : (bs before : List (List ℕ)) → are_among bs before ≡ true → AreAmong bs before
 are_from [] before e = tt
 are_from (b ∷ bs) before e = let x = and_parts (is_among b before) (are_among bs before) e in (is_from b before x.0, are_from bs before x.1)
-
-contains_right : {X : Type 0} (xs ys : List X) (x : X) → Contains ys x → Contains (xs ++ ys) x
-contains_right [] ys x here = here
-contains_right (z ∷ xs) ys x here = contains_more z (xs ++ ys) x (contains_right xs ys x here)
-
-contains_left : {X : Type 0} (xs ys : List X) (x : X) → Contains xs x → Contains (xs ++ ys) x
-contains_left [] ys x here = let none = here.1 in absurd (omega (arith, none))
-contains_left (z ∷ xs) ys x here = by (λ more. contains_left xs ys x more) here.0 here.1 here.2 where
-  by : (Contains xs x → Contains (xs ++ ys) x) → (k : ℕ) → k < length (z ∷ xs) → slice_index_or (z ∷ xs) k x ≡ x → Contains (z ∷ (xs ++ ys)) x
-  by later zero lt is = (zero, omega arith, is)
-  by later (suc k) lt is = contains_more z (xs ++ ys) x (later (k, omega (arith, lt), is))
 
 module _ (before : List (List ℕ)) (b : List ℕ) where
   place_from : (ps : List Place) → has_place_over ps before b ≡ true → (p : Place) × Contains ps p × (p.0 ≡ b) × AreAmong (tops p.1) before

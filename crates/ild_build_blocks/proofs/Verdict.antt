@@ -2,6 +2,7 @@
 use Rattle.std.proofs.Common.{◌≡◌, ◌⊎◌, inl, inr, ⊎_elim, ℕ, ◌+◌, ◌≤◌, Bool, true, false, ◌||◌, cond, List, [], ◌∷◌, ◌++◌, option_map, refl, sym, ap, ◌∙◌, subst, arith}
 use Rattle.std.specs.List.{sum_by}
 use Rattle.std.proofs.lemmas.List.Sums.{sum_by-cons}
+use Rattle.std.proofs.lemmas.Bool.{or_parts}
 use Rattle.ild_bulk.specs.Build.{any_long, is_long}
 use Rattle.ild_bulk.specs.Children.{Follows}
 use Rattle.ild_data.specs.Data.{Data}
@@ -40,10 +41,6 @@ or_true : (a b : Bool) → (a || b) ≡ true → (a ≡ true) ⊎ (b ≡ true)
 or_true true b e = inl refl
 or_true false b e = inr e
 
-or_false : (a b : Bool) → (a || b) ≡ false → (a ≡ false) × (b ≡ false)
-or_false true b e = absurd cc
-or_false false b e = (refl, e)
-
 over_is : (b : List ℕ) (c : Bool) → is_long b ≡ c → over b ≡ cond c 1 0
 over_is b c e = ap (λ x. cond x 1 0) e
 
@@ -54,7 +51,7 @@ any_over (b ∷ bs) e = ⊎_elim (λ x. let one = over_is b true x in omega (ari
 none_over : (bs : List (List ℕ)) → any_long bs ≡ false → sum_by over bs ≡ 0
 none_over [] e = refl
 none_over (b ∷ bs) e =
-    let both = or_false (is_long b) (any_long bs) e in
+    let both = or_parts (is_long b) (any_long bs) e in
     let none = over_is b false both.0 in
     let more = none_over bs both.1 in
     omega (arith, none, more, sum_by-cons over b bs)
@@ -109,8 +106,8 @@ module _ (h : List ℕ → List ℕ) (rows : List Row) (made_is : IsMade rows) (
   pub is_planned : was.blocks.items ≡ [] → now.exhausted ≡ false → (p : Planned) → p.block ≡ out → p.nodes.items ≡ now.blocks.items → (a b c : Bool) → a ≡ now.long → b ≡ is_long out → c ≡ any_long now.blocks.items → ((a || b) || c) ≡ false → IsPlanned h rows s v p
   is_planned none e p block items a b c al bl cl short =
       let t = whole_tree e in
-      let both = or_false (a || b) c short in
-      let first = or_false a b both.0 in
+      let both = or_parts (a || b) c short in
+      let first = or_parts a b both.0 in
       let all : now.blocks.items ≡ w.added = w.blocks ∙ ap (λ xs. xs ++ w.added) none in
       ⊎_elim
       (λ (x : Exact h rows (λ μ. weigh μ rows s v) (spell t.tree) old out w.added now).

@@ -1,10 +1,10 @@
 -- Entries of a HAMT with their marks, sorted bytewise by key.
-use Rattle.std.proofs.Common.{◌≡◌, Bool, true, false, cond, ◌||◌, ℕ, zero, suc, ◌+◌, ◌≤◌, ◌<◌, List, [], ◌∷◌, ◌++◌, length, map, get_or, set, Result, Ok, Err, OnOk, IsPermutation, IsUtf8, refl, sym, ap, ◌∙◌, subst, arith, append_assoc, append-nil}
+use Rattle.std.proofs.Common.{◌≡◌, true, false, cond, ◌||◌, ℕ, zero, suc, ◌+◌, ◌≤◌, ◌<◌, List, [], ◌∷◌, ◌++◌, length, map, get_or, set, Result, Ok, Err, OnOk, IsPermutation, IsUtf8, refl, sym, ap, ◌∙◌, subst, arith, append_assoc, append-nil}
 use Rattle.std.specs.List.{swap}
 use Rattle.std.specs.List.Sorted.{IsSortedByKey}
 use Rattle.std.specs.Prelude.{codes}
 use Rattle.std.specs.Ordering.{is_lt}
-use Rattle.std.proofs.lemmas.Bool.{leb-false}
+use Rattle.std.proofs.lemmas.Bool.{leb-false, or_parts}
 use Rattle.std.proofs.lemmas.List.Sorted.{IsPermutation-keeps, IsPermutation-refl, IsPermutation-trans}
 use Rattle.ild_bulk.specs.Build.{is_long}
 use Rattle.ild_bulk.specs.Keyed.{AreMarked, IsMarked, entry_front, entry_spelled, mark_in}
@@ -71,12 +71,8 @@ ends_null key value old begun new nodes from none begins is at =
 pub not_fine : (n : Nodes) → (n.exhausted || n.long) ≡ true → IsFine n → ⊥
 not_fine n some fine = true_false (n.exhausted || n.long) some (λ i. fine.exhausted i || fine.long i)
 
-neither : (a b : Bool) → (a || b) ≡ false → (a ≡ false) × (b ≡ false)
-neither true b e = absurd cc
-neither false b e = (refl, e)
-
 pub fine_of : (n : Nodes) → (n.exhausted || n.long) ≡ false → IsFine n
-fine_of n none = let both = neither n.exhausted n.long none in record { exhausted = both.0; long = both.1 }
+fine_of n none = let both = or_parts n.exhausted n.long none in record { exhausted = both.0; long = both.1 }
 
 short_of : (value : List ℕ) → is_long value ≡ false → length value ≤ longest_block
 short_of value short = let low = leb-false (suc longest_block) (length value) short in omega (arith, low)
@@ -84,7 +80,7 @@ short_of value short = let low = leb-false (suc longest_block) (length value) sh
 -- a value that counts, once it was told whether it is too long
 pub fits_entry : (value : List ℕ) (was now : Nodes) → now.exhausted ≡ was.exhausted → now.long ≡ (was.long || is_long value) → (IsFine was → BlockIn deepest_value value) → IsFine now → FitsEntry value
 fits_entry value was now same long fits fine =
-    let both = neither was.long (is_long value) (sym long ∙ fine.long) in
+    let both = or_parts was.long (is_long value) (sym long ∙ fine.long) in
     record { block = fits (record { exhausted = sym same ∙ fine.exhausted; long = both.0 }); sized = short_of value both.1 }
 
 pub adds_entry : (h : List ℕ → List ℕ) (key value out : List ℕ) (was now : Nodes) (old new : MarkedEntries) (from : ℕ) (last : KeyedMark) (e : EndsEntry key value now old.out out from) → new.out ≡ out → new.marks.items ≡ old.marks.items ++ last ∷ []

@@ -13,6 +13,7 @@ use Rattle.ild_bulk.specs.Children.{Follows}
 use Rattle.ild_bulk.specs.Planned.{planned, slot_plan, PlansNode}
 use Rattle.ild_bulk.proofs.Building.{planned_is}
 use Rattle.ild_bulk.proofs.Childs.{plan-follows}
+use Rattle.ild_hamt_trie.proofs.Pairs.{none_from}
 use Rattle.ild_data.specs.ByteOrder.{bytewise, in_byte_order, no_key_twice}
 use Rattle.ild_data.specs.Data.{Data}
 use Rattle.ild_data.specs.Spell.{spell}
@@ -65,10 +66,6 @@ module _ (f : List ℕ → ℕ) where
         ∙ sym (ap (sum_by f) (beneath_is left depth es))
 
 -- ---- entries in bytewise order
-
-none_from : (o : Option Data) → not (is_some o) ≡ true → o ≡ None
-none_from None e = refl
-none_from (Some x) e = absurd cc
 
 module _ (P : List ℕ × Data → Type 0) where
   put_all : (k : List ℕ) (v : Data) (es : List (List ℕ × Data)) → find bytewise k es ≡ None → P (k, v) → AllByRecursion P es → AllByRecursion P (put bytewise k v es)

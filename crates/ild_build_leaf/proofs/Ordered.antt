@@ -1,5 +1,5 @@
 -- Orders that are known by a test, and numbers at places of a list.
-use Rattle.std.proofs.Common.{◌≡◌, ℕ, zero, suc, ◌+◌, ◌<◌, List, [], ◌∷◌, length, take, get_or, slice_get, true, Some, refl, arith, add-one}
+use Rattle.std.proofs.Common.{◌≡◌, ℕ, zero, suc, ◌+◌, ◌<◌, List, [], ◌∷◌, length, take, get_or, true, refl, arith, add-one}
 use Rattle.std.specs.List.{AllByRecursion}
 use Rattle.std.specs.Ordering.{is_lt}
 use Rattle.std.specs.declared.cmp.Ordering.{Ordering}
@@ -9,11 +9,6 @@ pub less_is : (o : Ordering) → is_lt o ≡ true → o ≡ Less
 less_is Less h = refl
 less_is Equal h = absurd cc
 less_is Greater h = absurd cc
-
-pub got_at : (ps : List ℕ) (i : ℕ) → i < length ps → slice_get ps i ≡ Some (get_or ps i 0)
-got_at [] i h = absurd (omega (arith, h))
-got_at (p ∷ ps) zero h = refl
-got_at (p ∷ ps) (suc i) h = got_at ps i (omega (arith, h))
 
 all_next : (P : ℕ → Type 0) (ns : List ℕ) (i : ℕ) → i < length ns → P (get_or ns i 0) → AllByRecursion P (take i ns) → AllByRecursion P (take (suc i) ns)
 all_next P [] i low here all = absurd (omega (arith, low))

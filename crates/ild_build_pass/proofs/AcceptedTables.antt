@@ -1,10 +1,11 @@
 -- What a table that was accepted says of a struct's fields and of a union's members.
 use Rattle.std.proofs.Common.{◌≡◌, ℕ, List, [], ◌∷◌, length, true, Some, None, slice_get, refl, sym, ap, ◌∙◌, subst}
 use Rattle.std.specs.Option.{IfSome}
+use Rattle.ild_schema.proofs.Legibly.{map_form}
+use Rattle.ild_data.proofs.AllOf.{all_at}
 use Rattle.ild_schema.specs.declared.number.Slot.{Slot}
 use Rattle.ild_schema.specs.declared.def.TypeDef.TheVariants as D
 use Rattle.ild_schema.specs.declared.def.StructDef.{StructDef}
-use Rattle.ild_schema.specs.declared.def.StructForm.{StructForm}
 use Rattle.ild_schema.specs.declared.def.StructForm.TheVariants as S
 use Rattle.ild_schema.specs.declared.def.UnionDef.{UnionDef}
 use Rattle.ild_schema.specs.declared.def.Member.{Member}
@@ -16,9 +17,8 @@ use Rattle.ild_schema.specs.Legible.{IsLegible}
 use Rattle.ild_schema.specs.Made.{MadeMember}
 use Rattle.ild_schema.specs.Parts.{part_texts}
 use Rattle.ild_schema.specs.Rows.{def_at}
-use Rattle.ild_schema.specs.Rules.{is_map_form, is_map_struct}
+use Rattle.ild_schema.specs.Rules.{is_map_struct}
 use Rattle.ild_schema.specs.Slots.{form_of}
-use Rattle.ild_build.proofs.EachKey.{one_of}
 use Rattle.ild_build_pass.specs.inside.Places.{texts_of}
 
 pub past : {A : Type 0} (xs : List A) (n : ℕ) → n ≡ length xs → slice_get xs n ≡ None
@@ -28,19 +28,12 @@ past xs n e = ap (slice_get xs) e ∙ by xs
     by [] = refl
     by (y ∷ ys) = by ys
 
-map_form_is : (f : StructForm) → is_map_form f ≡ true → f ≡ S.Map
-map_form_is S.Map e = refl
-map_form_is S.Tuple e = absurd cc
-map_form_is S.ListPairs e = absurd cc
-map_form_is (S.StringPairs i j) e = absurd cc
-map_form_is (S.StringJoin d) e = absurd cc
-
 pub map_struct_is : (rows : List Row) (s : Slot) (sd : StructDef) → form_of rows s ≡ Some (D.Struct sd) → is_map_struct (form_of rows s) ≡ true → sd.form ≡ S.Map
-map_struct_is rows s sd is map = map_form_is sd.form (sym (ap is_map_struct is) ∙ map)
+map_struct_is rows s sd is map = map_form sd.form (sym (ap is_map_struct is) ∙ map)
 
 -- what acceptance says of a union's member
 pub member_ready : (rows : List Row) → IsLegible rows → (s : Slot) (u : UnionDef) (n : ℕ) (m : Member) → form_of rows s ≡ Some (D.Union u) → slice_get u.members n ≡ Some m → MadeMember rows u.form m
-member_ready rows legible s u n m is at = one_of (MadeMember rows u.form) u.members n m (legible.made (base rows s.ty.0) (D.Union u) is) at
+member_ready rows legible s u n m is at = all_at (MadeMember rows u.form) u.members n m (legible.made (base rows s.ty.0) (D.Union u) is) at
 
 pub keys_ready : (rows : List Row) → IsLegible rows → (s : Slot) (u : UnionDef) → form_of rows s ≡ Some (D.Union u) → KeysApart u.form
 keys_ready rows legible s u is = (legible.clear.types (base rows s.ty.0) (D.Union u) is).keys

@@ -7,10 +7,9 @@ use Rattle.ild_schema.specs.declared.def.TypeDef.{TypeDef}
 use Rattle.ild_schema.specs.declared.def.TypeDef.TheVariants as D
 use Rattle.ild_schema.specs.declared.def.UnionDef.{UnionDef}
 use Rattle.ild_schema.specs.declared.def.UnionForm.TheVariants as UF
-use Rattle.ild_schema.specs.declared.def.KindWord.{KindWord}
 use Rattle.ild_schema.specs.declared.def.KindWord.TheVariants as K
 use Rattle.ild_schema.specs.declared.row.Row.{Row}
-use Rattle.ild_schema.specs.DataKinds.{kind_in, same_kind, union_has}
+use Rattle.ild_schema.specs.DataKinds.{kind_in, union_has}
 use Rattle.ild_schema.specs.Made.{HasOnly, IsMade}
 use Rattle.ild_schema.specs.Slots.{form_of, plainly}
 use Rattle.ild_schema.specs.Value as V
@@ -27,7 +26,7 @@ use Rattle.ild_typed.proofs.Flat.{flat_alone, flat_text}
 use Rattle.ild_typed.proofs.Making.{text_slot}
 use Rattle.ild_typed.proofs.OneLayer.{in_layer, of_layer}
 use Rattle.ild_build.specs.TextRep.{is_text_layer, text_rep}
-use Rattle.ild_build.proofs.PartFits.{text_layer}
+use Rattle.ild_build.proofs.PartFits.{text_layer, kind_text}
 use Rattle.ild_build_pass.specs.Fitting.{FitsIn}
 use Rattle.ild_build_leaf.specs.Made.{made}
 use Rattle.ild_build_pass.specs.Weights.{Weight, weigh}
@@ -49,19 +48,9 @@ layer_text rows s v d is e =
     let x = text_layer rows s v d is e in
     record { only = x.only; layer = x.layer; is = x.is }
 
-text_kind : (k : KindWord) → same_kind K.Text k ≡ true → k ≡ K.Text
-text_kind K.Text e = refl
-text_kind K.Null e = absurd cc
-text_kind K.Bool e = absurd cc
-text_kind K.Int e = absurd cc
-text_kind K.Bytes e = absurd cc
-text_kind K.List e = absurd cc
-text_kind K.Map e = absurd cc
-text_kind K.Link e = absurd cc
-
 pub union_text : (rows : List Row) (s : Slot) (n : ℕ) (v : Value) (u : UnionDef) → form_of rows s ≡ Some (D.Union u) → u.form ≡ UF.StringPrefix → IsText rows s (V.union n v)
 union_text rows s n v u is form = record {
-  only = λ k e. text_kind k (sym (ap (λ f. union_has f u.members k) form) ∙ sym (ap (λ o. kind_in o k) is) ∙ e);
+  only = λ k e. kind_text k (sym (ap (λ f. union_has f u.members k) form) ∙ sym (ap (λ o. kind_in o k) is) ∙ e);
   layer = L.union n v;
   is = refl;
 }

@@ -1,8 +1,9 @@
 -- Values in which no HAMT stands weigh nothing: leaves, and texts.
-use Rattle.std.proofs.Common.{rules, ◌≡◌, ℕ, ℤ, zero, suc, ◌+◌, ◌<◌, List, [], ◌∷◌, ◌++◌, Bool, true, false, ◌||◌, Option, Some, None, option_map, refl, sym, ap, ◌∙◌, subst, arith}
+use Rattle.std.proofs.Common.{rules, ◌≡◌, ℕ, ℤ, zero, suc, ◌+◌, ◌<◌, List, [], ◌∷◌, ◌++◌, Bool, true, false, Option, Some, None, option_map, refl, sym, ap, ◌∙◌, subst, arith}
 use Rattle.std.specs.Prelude.{option_and_then}
 use Rattle.std.specs.Option.{option_map_or}
 use Rattle.std.proofs.lemmas.Option.{none-some}
+use Rattle.std.proofs.lemmas.Bool.{or_parts}
 use Rattle.ild_data.specs.Data.{Data}
 use Rattle.ild_data.specs.Spell.{spell, spell_int, spell_text}
 use Rattle.ild_emit.specs.Simple.{simple_data}
@@ -145,10 +146,6 @@ a_leaf (W.Union n x) a b c d = absurd (d n x refl)
 abbrev pub is_hamt : Option TypeDef → Value → Bool
 is_hamt (Some (D.Map key key_at value at (MF.Hamt p))) (V.map ps) = true
 is_hamt d v = false
-
-or_parts : (a b : Bool) → (a || b) ≡ false → (a ≡ false) × (b ≡ false)
-or_parts true b e = absurd cc
-or_parts false b e = (refl, e)
 
 module _ (μ : Weight) (rows : List Row) where
   here_none : (o : Option TypeDef) (ps : Pairs) → is_hamt o (V.map ps) ≡ false → hamt_weight μ o ps ≡ 0

@@ -6,6 +6,7 @@ use Rattle.std.specs.declared.cmp.Ordering.{Ordering}
 use Rattle.std.specs.declared.cmp.Ordering.TheVariants.{Less, Equal, Greater}
 use Rattle.std.specs.FinMap.{find, put}
 use Rattle.std.proofs.lemmas.Option.{same_Some}
+use Rattle.ild_hamt_trie.proofs.Exhaust.{some_first}
 use Rattle.ild_data.specs.ByteOrder.{bytewise, in_byte_order, no_key_twice}
 use Rattle.ild_data.specs.Data as T
 use Rattle.ild_data.specs.Data.{Data}
@@ -16,7 +17,7 @@ use Rattle.ild_hamt_trie.proofs.Node.{is_some-map, is_some-slot, no_node, node-s
 use Rattle.ild_schema.specs.declared.number.Slot.{Slot}
 use Rattle.ild_schema.specs.declared.row.Row.{Row}
 use Rattle.ild_schema.specs.Value as V
-use Rattle.ild_schema.specs.Value.{Value, Pairs, pairs_list}
+use Rattle.ild_schema.specs.Value.{Pairs, pairs_list}
 use Rattle.ild_typed.specs.Composed.{Hamts}
 use Rattle.ild_typed.specs.Represented.{represented, represented_pairs}
 use Rattle.ild_typed.proofs.Basics.{map_from}
@@ -40,10 +41,6 @@ nulls_part at (e ∷ es) i = by (nulls_part at es i) (at e.0 == i)
     by : part at (nulls es) i ≡ nulls (part at es i) → (b : Bool) → cond b ((e.0, T.null) ∷ part at (nulls es) i) (part at (nulls es) i) ≡ nulls (cond b (e ∷ part at es i) (part at es i))
     by more true = ap (λ xs. (e.0, T.null) ∷ xs) more
     by more false = more
-
-some_first : {Y : Type 0} (o : Option Y) (os : List (Option Y)) → is_some (all_some (o ∷ os)) ≡ (is_some o && is_some (all_some os))
-some_first None os = refl
-some_first (Some y) os = is_some-map (λ ys. y ∷ ys) (all_some os)
 
 all_alike : {X Y : Type 0} (f g : X → Option Y) (xs : List X) → ((x : X) → is_some (f x) ≡ is_some (g x)) → is_some (all_some (map f xs)) ≡ is_some (all_some (map g xs))
 all_alike f g [] each = refl

@@ -7,8 +7,9 @@ use Rattle.std.proofs.lemmas.List.Sums.{sum_by-append}
 use Rattle.std.proofs.lemmas.Option.{same_Some}
 use Rattle.ild_bulk.specs.Children.{Follows}
 use Rattle.ild_bulk.proofs.Childs.{follows-append}
+use Rattle.ild_data.proofs.AllOf.{all_append}
 use Rattle.ild_data.specs.Data as T
-use Rattle.ild_data.specs.Data.{Data, depth}
+use Rattle.ild_data.specs.Data.{Data}
 use Rattle.ild_data.specs.Limits.{longest_block}
 use Rattle.ild_data.specs.Spell.{spell}
 use Rattle.ild_node.specs.Rows.{AreShallow, deepest_value}
@@ -23,7 +24,6 @@ use Rattle.ild_typed.specs.Nested.{BlockIn, TreeIn}
 use Rattle.ild_typed.specs.Represented.{represented, represented_pairs}
 use Rattle.ild_typed.proofs.Basics.{map_from}
 use Rattle.ild_typed.proofs.Entries.{both_from}
-use Rattle.ild_typed.proofs.Treed.{all_append}
 use Rattle.ild_typed.proofs.TreeValues.{whole_past}
 use Rattle.ild_build_entries.specs.Entries.{AddsEntry}
 use Rattle.ild_build_pass.specs.Fitting.{HamtEntry}

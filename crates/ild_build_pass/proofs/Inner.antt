@@ -9,7 +9,8 @@ use Rattle.std.specs.Cmp.Lexicographic.{same_text as text_same, nat_list_eq_equi
 use Rattle.ild_bulk.specs.Planned.{planned}
 use Rattle.ild_edges.specs.Among.{IsIn}
 use Rattle.ild_edges.proofs.Among.{IsIn-contains}
-use Rattle.ild_typed.specs.Among.{AreAmong}
+use Rattle.ild_data.proofs.AllOf.{all_split}
+use Rattle.ild_data.specs.Among.{AreAmong}
 use Rattle.ild_data.specs.ByteOrder.{in_byte_order}
 use Rattle.ild_data.specs.Data.{Data}
 use Rattle.ild_data.specs.Key.{same_text}
@@ -23,7 +24,6 @@ use Rattle.ild_schema.specs.Value.{Pairs, pairs_list}
 use Rattle.ild_typed.specs.Blocks.{nodes, nodes_of_pairs}
 use Rattle.ild_typed.specs.Hamt.{whole}
 use Rattle.ild_typed.specs.Represented.{represented_pairs}
-use Rattle.ild_typed.proofs.TreeNodes.{all_split}
 use Rattle.ild_typed_places.specs.Places.{Places, nowhere, place, at_key, blocks_in, places_beneath, places_in_pairs, places_over, tops}
 use Rattle.ild_typed_places.proofs.Keyed.{InEach, at_keys}
 use Rattle.ild_typed_places.proofs.Listing.{all_from}

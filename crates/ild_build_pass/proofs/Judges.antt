@@ -1,9 +1,10 @@
 -- What the weights of a value say: its blocks, and whether a HAMT of it has no trie.
-use Rattle.std.proofs.Common.{◌≡◌, ℕ, ◌+◌, Bool, true, false, cond, ◌||◌, List, [], ◌∷◌, ◌++◌, Option, Some, None, is_some, is_none, option_map, refl, sym, ap, ◌∙◌, arith}
+use Rattle.std.proofs.Common.{◌≡◌, ℕ, ◌+◌, Bool, true, false, cond, List, [], ◌∷◌, ◌++◌, Option, Some, None, is_some, is_none, option_map, refl, sym, ap, ◌∙◌, arith}
 use Rattle.std.specs.List.{sum_by}
 use Rattle.std.specs.Option.{option_map_or}
 use Rattle.std.proofs.lemmas.List.Sums.{sum_by-append}
 use Rattle.std.proofs.lemmas.Option.{same_Some, none-some}
+use Rattle.std.proofs.lemmas.Bool.{or_from}
 use Rattle.ild_data.specs.Data.{Data}
 use Rattle.ild_data.specs.Trie.{trie}
 use Rattle.ild_data.specs.declared.hamt_shape.HamtShape.{HamtShape}
@@ -23,7 +24,6 @@ use Rattle.ild_typed.specs.EachLayer.{some_layer, some_value, some_pair, some_fi
 use Rattle.ild_typed.specs.Hamt.{root_map, whole}
 use Rattle.ild_typed.specs.Judged.{exhausts, is_exhausted, map_exhausts}
 use Rattle.ild_typed.specs.Layer as L
-use Rattle.ild_typed.specs.Layer.{Layer}
 use Rattle.ild_typed.specs.Represented.{represented, represented_values, represented_pairs, represented_fields}
 use Rattle.ild_typed.specs.Slots.{element_of, fields_of, member_of}
 use Rattle.ild_typed.proofs.Basics.{map_from, then_from}
@@ -125,9 +125,6 @@ module _ (h : List ℕ → List ℕ) (rows : List Row) (f : List ℕ → ℕ) wh
 sum_none : (a b : ℕ) → a + b ≡ 0 → (a ≡ 0) × (b ≡ 0)
 sum_none a b e = (omega (arith, e), omega (arith, e))
 
-none_or : (a b : Bool) → a ≡ false → b ≡ false → (a || b) ≡ false
-none_or a b x y = ap (λ c. c || b) x ∙ y
-
 module _ (h : List ℕ → List ℕ) (rows : List Row) where
   crowd_of : (p : HamtShape) (ps : Pairs) (es : List (List ℕ × Data)) (value : Slot) → represented_pairs (whole h) rows value ps ≡ Some es → is_some (trie h p (bare_keys (pairs_list ps)) 0) ≡ is_some (trie h p es 0)
   crowd_of p ps es value e = ap (λ xs. is_some (trie h p xs 0)) (sym (nulls_keys (whole h) rows value ps es e)) ∙ trie_nulls h p es
@@ -196,29 +193,29 @@ module _ (h : List ℕ → List ℕ) (rows : List Row) where
     full s (V.enum n) e = refl
     full s (V.hamt d) e = refl
     full s (V.list vs) e =
-        none_or (is_exhausted h rows (form_of rows s) (V.list vs)) (option_map_or (λ u. some_value (is_exhausted h rows) rows u vs) (element_of (form_of rows s)) false) (no_list (form_of rows s) vs)
+        or_from (is_exhausted h rows (form_of rows s) (V.list vs)) (option_map_or (λ u. some_value (is_exhausted h rows) rows u vs) (element_of (form_of rows s)) false) (no_list (form_of rows s) vs)
         (given (λ u. weigh_values (crowded h) rows u vs) (λ u. some_value (is_exhausted h rows) rows u vs) (element_of (form_of rows s)) (λ u k. full_values u vs k) e)
     full s (V.map ps) e =
         let both = sum_none (hamt_weight (crowded h) (form_of rows s) ps) (option_map_or (λ u. weigh_pairs (crowded h) rows u ps) (element_of (form_of rows s)) 0) e in
-        none_or (is_exhausted h rows (form_of rows s) (V.map ps)) (option_map_or (λ u. some_pair (is_exhausted h rows) rows u ps) (element_of (form_of rows s)) false) (full_here (form_of rows s) ps both.0)
+        or_from (is_exhausted h rows (form_of rows s) (V.map ps)) (option_map_or (λ u. some_pair (is_exhausted h rows) rows u ps) (element_of (form_of rows s)) false) (full_here (form_of rows s) ps both.0)
         (given (λ u. weigh_pairs (crowded h) rows u ps) (λ u. some_pair (is_exhausted h rows) rows u ps) (element_of (form_of rows s)) (λ u k. full_pairs u ps k) both.1)
     full s (V.struct os) e =
-        none_or (is_exhausted h rows (form_of rows s) (V.struct os)) (some_field (is_exhausted h rows) rows (fields_of (form_of rows s)) os) (no_struct (form_of rows s) os) (full_fields (fields_of (form_of rows s)) os e)
+        or_from (is_exhausted h rows (form_of rows s) (V.struct os)) (some_field (is_exhausted h rows) rows (fields_of (form_of rows s)) os) (no_struct (form_of rows s) os) (full_fields (fields_of (form_of rows s)) os e)
     full s (V.union n v) e =
-        none_or (is_exhausted h rows (form_of rows s) (V.union n v)) (option_map_or (λ u. some_layer (is_exhausted h rows) rows u v) (member_of (form_of rows s) n) false) (no_union (form_of rows s) n v)
+        or_from (is_exhausted h rows (form_of rows s) (V.union n v)) (option_map_or (λ u. some_layer (is_exhausted h rows) rows u v) (member_of (form_of rows s) n) false) (no_union (form_of rows s) n v)
         (given (λ u. weigh (crowded h) rows u v) (λ u. some_layer (is_exhausted h rows) rows u v) (member_of (form_of rows s) n) (λ u k. full u v k) e)
 
     full_values : (u : Slot) (vs : Values) → weigh_values (crowded h) rows u vs ≡ 0 → some_value (is_exhausted h rows) rows u vs ≡ false
     full_values u V.no_values e = refl
     full_values u (V.value v vs) e =
         let both = sum_none (weigh (crowded h) rows u v) (weigh_values (crowded h) rows u vs) e in
-        none_or (some_layer (is_exhausted h rows) rows u v) (some_value (is_exhausted h rows) rows u vs) (full u v both.0) (full_values u vs both.1)
+        or_from (some_layer (is_exhausted h rows) rows u v) (some_value (is_exhausted h rows) rows u vs) (full u v both.0) (full_values u vs both.1)
 
     full_pairs : (u : Slot) (ps : Pairs) → weigh_pairs (crowded h) rows u ps ≡ 0 → some_pair (is_exhausted h rows) rows u ps ≡ false
     full_pairs u V.no_pairs e = refl
     full_pairs u (V.pair k v ps) e =
         let both = sum_none (weigh (crowded h) rows u v) (weigh_pairs (crowded h) rows u ps) e in
-        none_or (some_layer (is_exhausted h rows) rows u v) (some_pair (is_exhausted h rows) rows u ps) (full u v both.0) (full_pairs u ps both.1)
+        or_from (some_layer (is_exhausted h rows) rows u v) (some_pair (is_exhausted h rows) rows u ps) (full u v both.0) (full_pairs u ps both.1)
 
     full_fields : (fs : List Field) (os : Optionals) → weigh_fields (crowded h) rows fs os ≡ 0 → some_field (is_exhausted h rows) rows fs os ≡ false
     full_fields fs V.no_optionals e = refl
@@ -227,7 +224,7 @@ module _ (h : List ℕ → List ℕ) (rows : List Row) where
     full_fields (g ∷ fs) (V.absent os) e = full_fields fs os e
     full_fields (g ∷ fs) (V.present v os) e =
         let both = sum_none (weigh (crowded h) rows g.slot v) (weigh_fields (crowded h) rows fs os) e in
-        none_or (some_layer (is_exhausted h rows) rows g.slot v) (some_field (is_exhausted h rows) rows fs os) (full g.slot v both.0) (full_fields fs os both.1)
+        or_from (some_layer (is_exhausted h rows) rows g.slot v) (some_field (is_exhausted h rows) rows fs os) (full g.slot v both.0) (full_fields fs os both.1)
 
   -- ---- and where there is a representation, none are crowded
 

@@ -9,6 +9,9 @@ use Rattle.std.specs.declared.cmp.Ordering.TheVariants.{Less, Equal, Greater}
 use Rattle.std.proofs.lemmas.List.{map-append, take-append-drop}
 use Rattle.std.proofs.lemmas.List.Elements.{filter-append}
 use Rattle.std.proofs.lemmas.Option.{slice_get-map}
+use Rattle.ild_schema.proofs.Finding.{got_at}
+use Rattle.ild_data.proofs.Gets.{drop_at, drop_past}
+use Rattle.ild_data.proofs.AllOf.{all_at}
 use Rattle.ild_data.specs.Key.{key_cmp, key_less, put, IsBelow, Rises}
 use Rattle.ild_data.proofs.Rising.{key_cmp_total, key_exact}
 use Rattle.ild_schema.specs.declared.def.Field.{Field}
@@ -18,13 +21,11 @@ use Rattle.ild_schema.specs.Marks.{field_text}
 use Rattle.ild_schema.specs.Value.{Value}
 use Rattle.ild_build.specs.LeftOut.{is_left_out}
 use Rattle.ild_build.specs.PartAt.{field_at}
-use Rattle.ild_build.proofs.EachKey.{one_of}
-use Rattle.ild_build.proofs.Texting.{drop_got, drop_all}
 use Rattle.ild_build_leaf.specs.Kept.{is_before, kept_at}
 use Rattle.ild_build_pass.specs.inside.Places.{in_order, is_written, name_at, named, places_from, texts_of, written_of}
 use Rattle.ild_build_pass.proofs.Keyed.{below_some, kept_is as kept_are, keyed}
 use Rattle.ild_build_leaf.proofs.Turns.{kept_is, kept_none}
-use Rattle.ild_build_leaf.proofs.Ordered.{got_at, less_is}
+use Rattle.ild_build_leaf.proofs.Ordered.{less_is}
 
 module _ (fs : List Field) (os : List (Option Value)) where
   -- ---- whether a field is written
@@ -65,7 +66,7 @@ module _ (fs : List Field) (os : List (Option Value)) where
 
   turn : (ps : List ℕ) (i : ℕ) (b : Bool) → i < length ps → is_written fs os (get_or ps i 0) ≡ b → written_of fs os (drop i ps) ≡ cond b (get_or ps i 0 ∷ written_of fs os (drop (i + 1) ps)) (written_of fs os (drop (i + 1) ps))
   turn ps i b low is =
-      ap (written_of fs os) (drop_got ps i (get_or ps i 0) (got_at ps i low))
+      ap (written_of fs os) (drop_at ps i (get_or ps i 0) (got_at ps i low))
       ∙ ap (λ c. cond c (get_or ps i 0 ∷ written_of fs os (drop (i + 1) ps)) (written_of fs os (drop (i + 1) ps))) is
 
   pub passes : (ps : List ℕ) (i : ℕ) → i < length ps → is_written fs os (get_or ps i 0) ≡ false → written_of fs os (drop i ps) ≡ written_of fs os (drop (i + 1) ps)
@@ -75,7 +76,7 @@ module _ (fs : List Field) (os : List (Option Value)) where
   takes ps i low is = turn ps i true low is
 
   pub none_left : (ps : List ℕ) (i : ℕ) → length ps ≤ i → written_of fs os (drop i ps) ≡ []
-  none_left ps i h = ap (written_of fs os) (drop_all ps i h)
+  none_left ps i h = ap (written_of fs os) (drop_past ps i h)
 
   -- ---- a key among the names
 
@@ -115,7 +116,7 @@ module _ (fs : List Field) (os : List (Option Value)) where
         by None at h = absurd cc
         by (Some f) at h =
             ap (λ o. key_cmp key (unwrap_or (option_and_then (λ t. t) o) [])) (slice_get-map {B = Option (List ℕ)} (λ (g : Field). Some (field_text g)) fs n ∙ ap (option_map {U = Option (List ℕ)} (λ (g : Field). Some (field_text g))) at)
-            ∙ key_cmp_total.antisymm key (field_text f) ∙ order f (key_cmp (field_text f) key) (one_of (λ g. key ≡ field_text g → ⊥) fs n f other at) refl h
+            ∙ key_cmp_total.antisymm key (field_text f) ∙ order f (key_cmp (field_text f) key) (all_at (λ g. key ≡ field_text g → ⊥) fs n f other at) refl h
 
     risen : (c : ℕ) (ns : List ℕ) → Rises (under_texts (texts_of fs) ns) → Rises (under_texts (texts_of fs) (drop c ns))
     risen zero ns up = up

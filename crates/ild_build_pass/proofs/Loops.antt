@@ -2,6 +2,7 @@
 use Rattle.std.proofs.Common.{◌≡◌, ℕ, ◌+◌, ◌≤◌, List, [], ◌∷◌, ◌++◌, length, drop, Bool, true, false, cond, Option, Some, None, option_map, slice_get, refl, sym, ap, ◌∙◌, ⊎_elim}
 use Rattle.std.specs.Prelude.{option_and_then}
 use Rattle.std.specs.Option.{option_map_or}
+use Rattle.ild_data.proofs.Gets.{drop_at, drop_past}
 use Rattle.ild_data.specs.Spell.{spell_text}
 use Rattle.ild_schema.specs.declared.number.Slot.{Slot}
 use Rattle.ild_schema.specs.declared.def.Field.{Field}
@@ -10,7 +11,6 @@ use Rattle.ild_schema.specs.Marks.{field_text}
 use Rattle.ild_schema.specs.Value.{Value}
 use Rattle.ild_build.specs.LeftOut.{is_left_out}
 use Rattle.ild_build.specs.PartAt.{field_at}
-use Rattle.ild_build.proofs.Texting.{drop_got, drop_all}
 use Rattle.ild_build_leaf.specs.Made.{made}
 use Rattle.ild_build_pass.specs.inside.Made.{both, items_made, entry_made, entries_made, tuple_made, fields_made}
 use Rattle.ild_build_leaf.specs.Kept.{kept_at}
@@ -20,17 +20,17 @@ use Rattle.ild_typed.specs.Hamt.{whole}
 
 module _ (hash : List ℕ → List ℕ) (rows : List Row) where
   pub item_turn : (u : Slot) (vs : List Value) (i : ℕ) (v : Value) → slice_get vs i ≡ Some v → items_made (whole hash) rows u (drop i vs) ≡ both (made (whole hash) rows u v) (items_made (whole hash) rows u (drop (i + 1) vs))
-  item_turn u vs i v at = ap (items_made (whole hash) rows u) (drop_got vs i v at)
+  item_turn u vs i v at = ap (items_made (whole hash) rows u) (drop_at vs i v at)
 
   pub items_end : (u : Slot) (vs : List Value) (i : ℕ) → length vs ≤ i → items_made (whole hash) rows u (drop i vs) ≡ Some []
-  items_end u vs i h = ap (items_made (whole hash) rows u) (drop_all vs i h)
+  items_end u vs i h = ap (items_made (whole hash) rows u) (drop_past vs i h)
 
   pub entry_turn : (paired : Bool) (u : Slot) (ps : List (List ℕ × Value)) (i : ℕ) (k : List ℕ) (v : Value) → slice_get ps i ≡ Some (k, v)
       → entries_made (whole hash) rows paired u (drop i ps) ≡ both (entry_made (whole hash) rows paired k u v) (entries_made (whole hash) rows paired u (drop (i + 1) ps))
-  entry_turn paired u ps i k v at = ap (entries_made (whole hash) rows paired u) (drop_got {A = List ℕ × Value} ps i (k, v) at)
+  entry_turn paired u ps i k v at = ap (entries_made (whole hash) rows paired u) (drop_at {X = List ℕ × Value} ps i (k, v) at)
 
   pub entries_end : (paired : Bool) (u : Slot) (ps : List (List ℕ × Value)) (i : ℕ) → length ps ≤ i → entries_made (whole hash) rows paired u (drop i ps) ≡ Some []
-  entries_end paired u ps i h = ap (entries_made (whole hash) rows paired u) (drop_all ps i h)
+  entries_end paired u ps i h = ap (entries_made (whole hash) rows paired u) (drop_past ps i h)
 
   -- ---- tuples
 
@@ -46,7 +46,7 @@ module _ (hash : List ℕ → List ℕ) (rows : List Row) where
   tuple_skip = over_none (tuple_made (whole hash) rows) (λ f fs os. refl) tuple_ends
 
   pub tuple_end : (fs : List Field) (os : List (Option Value)) (i : ℕ) → length fs ≤ i → tuple_made (whole hash) rows (drop i fs) (drop i os) ≡ Some []
-  tuple_end fs os i h = ap (λ xs. tuple_made (whole hash) rows xs (drop i os)) (drop_all fs i h)
+  tuple_end fs os i h = ap (λ xs. tuple_made (whole hash) rows xs (drop i os)) (drop_past fs i h)
 
   -- ---- fields in the order of declaration
 
@@ -76,7 +76,7 @@ module _ (hash : List ℕ → List ℕ) (rows : List Row) where
   fields_passed fs os i f at e = ⊎_elim (λ n. fields_skip fs os i f at n) (λ x. fields_turn fs os i f x.value true at x.there x.left) (kept_none f os i e)
 
   pub fields_end : (fs : List Field) (os : List (Option Value)) (i : ℕ) → length fs ≤ i → fields_made (whole hash) rows true (drop i fs) (drop i os) ≡ Some []
-  fields_end fs os i h = ap (λ xs. fields_made (whole hash) rows true xs (drop i os)) (drop_all fs i h)
+  fields_end fs os i h = ap (λ xs. fields_made (whole hash) rows true xs (drop i os)) (drop_past fs i h)
 
   -- ---- places
 

@@ -4,14 +4,14 @@ use Rattle.std.specs.List.{AllByRecursion}
 use Rattle.std.specs.Cmp.Lexicographic.{nat_list_eq_equiv}
 use Rattle.ild_edges.specs.Among.{IsIn}
 use Rattle.ild_edges.proofs.Among.{IsIn-of}
-use Rattle.ild_typed.specs.Among.{AreAmong}
+use Rattle.ild_data.proofs.AllOf.{all_contained}
+use Rattle.ild_data.specs.Among.{AreAmong}
 use Rattle.ild_data.specs.declared.hamt_shape.HamtShape.{HamtShape}
 use Rattle.ild_data.specs.Key.{same_text}
 use Rattle.ild_schema.specs.declared.number.Slot.{Slot}
 use Rattle.ild_schema.specs.declared.row.Row.{Row}
 use Rattle.ild_schema.specs.Value.{Pairs}
 use Rattle.ild_typed_places.specs.Places.{Place, each_place, tops}
-use Rattle.ild_typed_places.proofs.Listing.{all_contained}
 use Rattle.ild_bulk_places.specs.Following.{FollowsIn}
 use Rattle.ild_build_pass.specs.Placed.{PlacedIn, are_among, has_place_over, hamt_places, is_among, over_children}
 use Rattle.ild_build_pass.specs.Weights.{Weight}

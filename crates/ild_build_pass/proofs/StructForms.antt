@@ -4,6 +4,7 @@ use Rattle.std.specs.Prelude.{option_and_then, is_none}
 use Rattle.std.specs.List.{AllByRecursion}
 use Rattle.std.specs.Option.{option_map_or}
 use Rattle.std.proofs.lemmas.Option.{same_Some, none-some}
+use Rattle.std.proofs.lemmas.Bool.{and_parts}
 use Rattle.ild_data.specs.Data as T
 use Rattle.ild_data.specs.Data.{Data}
 use Rattle.ild_data.specs.Key.{put, value_at}
@@ -30,7 +31,7 @@ use Rattle.ild_typed.specs.Layer as L
 use Rattle.ild_typed.specs.Represented.{represented, represented_fields, layered}
 use Rattle.ild_typed.specs.Slots.{fields_of}
 use Rattle.ild_typed.specs.Strings.{map_data, listpairs, pair_data, in_key_order, members_in}
-use Rattle.ild_typed.proofs.Basics.{map_from, if_from, true_from, both_true}
+use Rattle.ild_typed.proofs.Basics.{map_from, if_from, true_from}
 use Rattle.ild_typed.proofs.Entries.{both_from}
 use Rattle.ild_build.specs.LeftOut.{is_left_out}
 use Rattle.ild_build.specs.PartAt.{field_at}
@@ -231,7 +232,7 @@ module _ (hash : List ℕ → List ℕ) (rows : List Row) where
   all_absent (f ∷ fs) (V.absent os) ds e h =
       let x = map_from (λ (ys : List (Option Data)). None ∷ ys) (represented_fields (whole hash) rows fs os) ds e in
       let g = subst (λ ys. are_absent (f ∷ fs) ys ≡ true) (sym (same_Some (None ∷ x.item) ds x.made)) h in
-      let rest = all_absent fs os x.item x.there (both_true f.optional (are_absent fs x.item) g).1 in
+      let rest = all_absent fs os x.item x.there (and_parts f.optional (are_absent fs x.item) g).1 in
       record { bytes = rest.bytes; count = rest.count }
   all_absent (f ∷ fs) (V.present v os) ds e h =
       let b = both_from (option_map {U = Option Data} Some (represented (whole hash) rows f.slot v)) (represented_fields (whole hash) rows fs os) ds e in
@@ -257,7 +258,7 @@ module _ (hash : List ℕ → List ℕ) (rows : List Row) where
       let same = same_Some (None ∷ x.item) ds x.made in
       let g = subst (λ ys. tuple_items (f ∷ fs) ys ≡ Some xs) (sym same) h in
       let y = true_from {A = List Data} (are_absent (f ∷ fs) (None ∷ x.item)) [] xs g in
-      let rest = all_absent fs os x.item x.there (both_true f.optional (are_absent fs x.item) y.0).1 in
+      let rest = all_absent fs os x.item x.there (and_parts f.optional (are_absent fs x.item) y.0).1 in
       record { bytes = rest.bytes ∙ ap (λ ys. Some (spell_items (T.items_of ys))) y.1; count = ap (λ ys. length (T.items_list (T.items_of ys))) (sym y.1) ∙ rest.count }
   items_are_made (f ∷ fs) (V.present v os) ds xs e h =
       let b = both_from (option_map {U = Option Data} Some (represented (whole hash) rows f.slot v)) (represented_fields (whole hash) rows fs os) ds e in

@@ -1,6 +1,7 @@
 -- What the parts of a value weigh, in the turns of the loops that write them.
 use Rattle.std.proofs.Common.{◌≡◌, ⊎_elim, ℕ, ◌+◌, ◌≤◌, List, [], ◌∷◌, length, drop, true, Option, Some, None, option_map, slice_get, refl, ap, ◌∙◌, zero-add, arith}
 use Rattle.std.specs.Option.{option_map_or}
+use Rattle.ild_data.proofs.Gets.{drop_at, drop_past}
 use Rattle.ild_data.specs.declared.hamt_shape.HamtShape.{HamtShape}
 use Rattle.ild_schema.specs.declared.number.Slot.{Slot}
 use Rattle.ild_schema.specs.declared.number.TypeNo.{TypeNo}
@@ -20,23 +21,22 @@ use Rattle.ild_schema.specs.Value.{Value, Values, Pairs, Optionals, values_list,
 use Rattle.ild_typed.specs.Slots.{element_of, fields_of, member_of, slot_of}
 use Rattle.ild_build.specs.LeftOut.{is_left_out}
 use Rattle.ild_build.specs.PartAt.{field_at}
-use Rattle.ild_build.proofs.Texting.{drop_got, drop_all}
 use Rattle.ild_build_pass.specs.Weights.{Weight, weigh, weigh_values, weigh_pairs, weigh_fields, hamt_weight, items_weight, entries_weight, fields_weight, place_weight}
 use Rattle.ild_build_leaf.specs.Kept.{kept_at}
 use Rattle.ild_build_leaf.proofs.Turns.{kept_none, over_none, over_some}
 
 module _ (rows : List Row) (μ : Weight) where
   pub item_weight : (u : Slot) (vs : List Value) (i : ℕ) (v : Value) → slice_get vs i ≡ Some v → items_weight μ rows u (drop i vs) ≡ weigh μ rows u v + items_weight μ rows u (drop (i + 1) vs)
-  item_weight u vs i v at = ap (items_weight μ rows u) (drop_got vs i v at)
+  item_weight u vs i v at = ap (items_weight μ rows u) (drop_at vs i v at)
 
   pub items_weigh : (u : Slot) (vs : List Value) (i : ℕ) → length vs ≤ i → items_weight μ rows u (drop i vs) ≡ 0
-  items_weigh u vs i h = ap (items_weight μ rows u) (drop_all vs i h)
+  items_weigh u vs i h = ap (items_weight μ rows u) (drop_past vs i h)
 
   pub entry_weight : (u : Slot) (ps : List (List ℕ × Value)) (i : ℕ) (k : List ℕ) (v : Value) → slice_get ps i ≡ Some (k, v) → entries_weight μ rows u (drop i ps) ≡ weigh μ rows u v + entries_weight μ rows u (drop (i + 1) ps)
-  entry_weight u ps i k v at = ap (entries_weight μ rows u) (drop_got {A = List ℕ × Value} ps i (k, v) at)
+  entry_weight u ps i k v at = ap (entries_weight μ rows u) (drop_at {X = List ℕ × Value} ps i (k, v) at)
 
   pub entries_weigh : (u : Slot) (ps : List (List ℕ × Value)) (i : ℕ) → length ps ≤ i → entries_weight μ rows u (drop i ps) ≡ 0
-  entries_weigh u ps i h = ap (entries_weight μ rows u) (drop_all ps i h)
+  entries_weigh u ps i h = ap (entries_weight μ rows u) (drop_past ps i h)
 
   weight_ends : (f : Field) (fs : List Field) → fields_weight μ rows (f ∷ fs) [] ≡ fields_weight μ rows fs []
   weight_ends f [] = refl
@@ -50,7 +50,7 @@ module _ (rows : List Row) (μ : Weight) where
   field_skip = over_none (fields_weight μ rows) (λ f fs os. refl) weight_ends
 
   pub fields_weigh : (fs : List Field) (os : List (Option Value)) (i : ℕ) → length fs ≤ i → fields_weight μ rows (drop i fs) (drop i os) ≡ 0
-  fields_weigh fs os i h = ap (λ xs. fields_weight μ rows xs (drop i os)) (drop_all fs i h)
+  fields_weigh fs os i h = ap (λ xs. fields_weight μ rows xs (drop i os)) (drop_past fs i h)
 
   -- a field that is left out is no HAMT, nor holds one
   pub left_weight : (o : Option Scalar) (u : Slot) (v : Value) → is_left_out o v ≡ true → weigh μ rows u v ≡ 0

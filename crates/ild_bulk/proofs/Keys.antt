@@ -1,8 +1,8 @@
 -- Hashed entries: parts of them by index are those of parts of the entries.
-use Rattle.std.proofs.Common.{◌≡◌, ◌<◌, ◌^◌, ◌==◌, ℕ, Bool, true, false, cond, get_or, List, [], ◌∷◌, refl, sym, ap, ◌∙◌, subst, filter}
+use Rattle.std.proofs.Common.{◌≡◌, ◌<◌, ◌^◌, ◌==◌, ℕ, Bool, true, false, cond, get_or, List, [], ◌∷◌, refl, sym, ap, ◌∙◌, subst}
 use Rattle.std.specs.Prelude.{IsUtf8}
-use Rattle.std.specs.List.{AllByRecursion}
 use Rattle.std.specs.Global.{Vec}
+use Rattle.ild_data.proofs.AllOf.{all_filter}
 use Rattle.ild_data.specs.Data.{Data}
 use Rattle.ild_data.specs.declared.hamt_shape.HamtShape.{HamtShape}
 use Rattle.ild_data.specs.TrieShape.{index}
@@ -48,14 +48,6 @@ pub parted-has : (h : List ℕ → List ℕ) (p : HamtShape) (depth : ℕ) (es :
     → HasParts h p depth es ps
 parted-has h p depth es ks parts ps are parted same = record { pieces = ks; are = are; parted = subst (λ (qs : List (Vec HashedEntry)). Parted (hashed_index p depth) (2 ^ p.width) ks qs) (sym same) parted }
 
-all_part : {X : Type 0} (P : X → Type 0) (f : X → Bool) (xs : List X) → AllByRecursion P xs → AllByRecursion P (filter f xs)
-all_part P f [] all = tt
-all_part P f (x ∷ xs) all = by (f x) (all_part P f xs all.1)
-  where
-    by : (b : Bool) → AllByRecursion P (filter f xs) → AllByRecursion P (cond b (x ∷ filter f xs) (filter f xs))
-    by true rest = (all.0, rest)
-    by false rest = rest
-
 -- a part of rows is in order, and what holds of all holds of it
 pub rows-part : (at : List ℕ → ℕ) (es : List (List ℕ × Data)) (i : ℕ) → AreRows es → AreRows (part at es i)
-rows-part at es i rows = (in_order-part at es i rows.0, all_part (λ e. IsUtf8 e.0) (λ e. at e.0 == i) es rows.1, all_part (λ e. TreeIn deepest_value e.1) (λ e. at e.0 == i) es rows.2)
+rows-part at es i rows = (in_order-part at es i rows.0, all_filter (λ e. IsUtf8 e.0) (λ e. at e.0 == i) es rows.1, all_filter (λ e. TreeIn deepest_value e.1) (λ e. at e.0 == i) es rows.2)

@@ -1,7 +1,9 @@
 -- The blocks of a HAMT of rows nest within the limits.
-use Rattle.std.proofs.Common.{◌≡◌, ℕ, zero, suc, ◌+◌, ◌-◌, ◌^◌, ◌==◌, ◌≤◌, nat_le, Bool, true, false, ◌||◌, List, [], ◌∷◌, ◌++◌, length, Option, Some, None, refl, sym, ◌∙◌, subst, arith, flat_map}
+use Rattle.std.proofs.Common.{◌≡◌, ℕ, zero, suc, ◌+◌, ◌-◌, ◌^◌, ◌==◌, ◌≤◌, nat_le, Bool, true, false, ◌||◌, List, [], ◌∷◌, ◌++◌, length, Option, Some, refl, sym, ◌∙◌, subst, arith, flat_map}
 use Rattle.std.specs.List.{AllByRecursion, range_with_len}
 use Rattle.std.proofs.lemmas.Bool.{leb-false}
+use Rattle.ild_typed.proofs.TreeBlocks.{block_in}
+use Rattle.ild_data.proofs.AllOf.{all_append, all_filter}
 use Rattle.ild_data.specs.Data.{Data}
 use Rattle.ild_data.specs.Limits.{longest_block}
 use Rattle.ild_data.specs.declared.hamt_shape.HamtShape.{HamtShape}
@@ -10,7 +12,7 @@ use Rattle.ild_data.specs.Trie.{part, node_of, at_depth}
 use Rattle.ild_data.specs.TrieBlocks.{block_of, none_or}
 use Rattle.ild_typed.specs.Nested.{TreeIn, BlockIn, IsBlock}
 use Rattle.ild_typed.proofs.Treed.{EntryIn}
-use Rattle.ild_typed.proofs.TreeNodes.{node_of_in, part_in}
+use Rattle.ild_typed.proofs.TreeNodes.{node_of_in}
 use Rattle.ild_node_slots.specs.Form.{AreTexts}
 use Rattle.ild_node.specs.Rows.{AreRows, AreShallow, deepest_value}
 use Rattle.ild_bulk.specs.Build.{HasShortTrie, any_long, is_long, plan_of}
@@ -22,22 +24,14 @@ entries_in : (es : List (List ℕ × Data)) → AreTexts es → AreShallow es �
 entries_in [] texts values = tt
 entries_in (e ∷ es) texts values = ((texts.0, values.0), entries_in es texts.1 values.1)
 
-all_join : {X : Type 0} (P : X → Type 0) (xs ys : List X) → AllByRecursion P xs → AllByRecursion P ys → AllByRecursion P (xs ++ ys)
-all_join P [] ys a b = b
-all_join P (x ∷ xs) ys a b = (a.0, all_join P xs ys a.1 b)
-
 all_parts : {X : Type 0} (P : X → Type 0) (f : ℕ → List X) (js : List ℕ) → ((j : ℕ) → AllByRecursion P (f j)) → AllByRecursion P (flat_map f js)
 all_parts P f [] each = tt
-all_parts P f (j ∷ js) each = all_join P (f j) (flat_map f js) (each j) (all_parts P f js each)
-
-block_in : (n : ℕ) (o : Option Data) → ((d : Data) → o ≡ Some d → TreeIn n d) → AllByRecursion (BlockIn n) (block_of o)
-block_in n None fits = tt
-block_in n (Some d) fits = (record { of = d; is = refl; fits = fits d refl }, tt)
+all_parts P f (j ∷ js) each = all_append P (f j) (flat_map f js) (each j) (all_parts P f js each)
 
 slot_in : (n : ℕ) (b : Bool) (below : List (List ℕ × Data) → Option Data) (beneath : List (List ℕ × Data) → List (List ℕ)) (es : List (List ℕ × Data)) → AllByRecursion (BlockIn n) (beneath es)
     → ((d : Data) → below es ≡ Some d → TreeIn n d) → AllByRecursion (BlockIn n) (none_or b (λ fs. beneath fs ++ block_of (below fs)) es)
 slot_in n true below beneath es first fits = tt
-slot_in n false below beneath es first fits = all_join (BlockIn n) (beneath es) (block_of (below es)) first (block_in n (below es) fits)
+slot_in n false below beneath es first fits = all_append (BlockIn n) (beneath es) (block_of (below es)) first (block_in n (below es) fits)
 
 none_in : (n : ℕ) (h : List ℕ → List ℕ) (p : HamtShape) (depth : ℕ) (es : List (List ℕ × Data)) → AllByRecursion (BlockIn n) (planned h p zero depth es)
 unfolding planned
@@ -48,7 +42,7 @@ planned_in n h p zero depth es all = none_in (n + 4) h p depth es
 planned_in n h p (suc left) depth es all =
     subst (λ (bs : List (List ℕ)). AllByRecursion (BlockIn (n + 4)) bs) (sym (planned_is h p left depth es))
     (all_parts (BlockIn (n + 4)) (λ i. slot_plan p.bucket (node_of h p left (depth + 1)) (planned h p left (depth + 1)) (part (at_depth h p depth) es i)) (range_with_len 0 (2 ^ p.width))
-    (λ i. let here = part_in (EntryIn n) (λ e. at_depth h p depth e.0 == i) es all in
+    (λ i. let here = all_filter (EntryIn n) (λ e. at_depth h p depth e.0 == i) es all in
     slot_in (n + 4) (nat_le (length (part (at_depth h p depth) es i)) p.bucket) (node_of h p left (depth + 1)) (planned h p left (depth + 1)) (part (at_depth h p depth) es i)
     (planned_in n h p left (depth + 1) (part (at_depth h p depth) es i) here)
     (λ d is. node_of_in n h p left (depth + 1) (part (at_depth h p depth) es i) d here is)))

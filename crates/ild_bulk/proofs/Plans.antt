@@ -50,7 +50,7 @@ alike-slot : (b : Bool) (below : List (List ℕ × Data) → Option Data) (f g :
 alike-slot true below f g es each = record { many = refl; all = λ q. refl }
 alike-slot false below f g es each = alike-swap (f es) (block_of (below es)) (g es) each
 
-beneath_is : (h : List ℕ → List ℕ) (p : HamtShape) (left depth : ℕ) (es : List (List ℕ × Data))
+pub beneath_is : (h : List ℕ → List ℕ) (p : HamtShape) (left depth : ℕ) (es : List (List ℕ × Data))
     → nodes_beneath h p (suc left) depth es ≡ flat_map (λ i. node_and_beneath p.bucket (node_of h p left (depth + 1)) (nodes_beneath h p left (depth + 1)) (part (at_depth h p depth) es i)) (range_with_len 0 (2 ^ p.width))
 unfolding nodes_beneath
 beneath_is h p left depth es = refl

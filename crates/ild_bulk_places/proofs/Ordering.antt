@@ -3,29 +3,25 @@ use Rattle.std.proofs.Common.{◌≡◌, ℕ, zero, suc, ◌+◌, ◌^◌, ◌==
 use Rattle.std.specs.Prelude.{Contains, slice_index_or}
 use Rattle.std.specs.List.{AllByRecursion, range_with_len}
 use Rattle.ild_bulk.specs.Planned.{planned, slot_plan}
-use Rattle.ild_typed.specs.Among.{AreAmong}
+use Rattle.ild_data.proofs.AllOf.{contains_more, all_append, all_filter}
+use Rattle.ild_data.specs.Among.{AreAmong}
 use Rattle.ild_data.specs.Data.{Data}
 use Rattle.ild_data.specs.Spell.{spell}
 use Rattle.ild_data.specs.Trie.{part, node_of, at_depth}
 use Rattle.ild_data.specs.TrieBlocks.{block_of, none_or}
 use Rattle.ild_data.specs.declared.hamt_shape.HamtShape.{HamtShape}
 use Rattle.ild_typed.proofs.Rooms.{all_more}
-use Rattle.ild_typed.proofs.Treed.{all_append}
-use Rattle.ild_typed.proofs.TreeNodes.{part_in}
 use Rattle.ild_typed_places.specs.Places.{Places, nowhere, place, Place, joined, places_over, tops, each_place, node_place, bucket_or_node, places_beneath}
 use Rattle.ild_typed_places.proofs.Linked.{each_joined}
 use Rattle.ild_bulk_places.specs.Following.{FollowsIn, PlansFollowPlaces}
 
 -- ---- members of lists
 
-contains_more : {X : Type 0} (y : X) (ys : List X) (x : X) → Contains ys x → Contains (y ∷ ys) x
-contains_more y ys x here = (suc here.0, (let lt = here.1 in omega (arith, lt)), here.2)
-
-contains_right : {X : Type 0} (xs ys : List X) (x : X) → Contains ys x → Contains (xs ++ ys) x
+pub contains_right : {X : Type 0} (xs ys : List X) (x : X) → Contains ys x → Contains (xs ++ ys) x
 contains_right [] ys x here = here
 contains_right (z ∷ xs) ys x here = contains_more z (xs ++ ys) x (contains_right xs ys x here)
 
-contains_left : {X : Type 0} (xs ys : List X) (x : X) → Contains xs x → Contains (xs ++ ys) x
+pub contains_left : {X : Type 0} (xs ys : List X) (x : X) → Contains xs x → Contains (xs ++ ys) x
 contains_left [] ys x here = let none = here.1 in absurd (omega (arith, none))
 contains_left (z ∷ xs) ys x here = by (λ more. contains_left xs ys x more) here.0 here.1 here.2 where
   by : (Contains xs x → Contains (xs ++ ys) x) → (k : ℕ) → k < length (z ∷ xs) → slice_index_or (z ∷ xs) k x ≡ x → Contains (z ∷ (xs ++ ys)) x
@@ -100,7 +96,7 @@ module _ (inner : List ℕ → Places) (home : Places) where
     of_slots most at es each [] before ready = record { follows = λ lies. tt; there = tt }
     of_slots most at es each (j ∷ js) before ready =
         let fs : List (List ℕ × Data) = part at es j in
-        let mine : Ready before fs = part_in (λ e. AreAmong (tops (inner e.0)) before) (λ e. at e.0 == j) es ready in
+        let mine : Ready before fs = all_filter (λ e. AreAmong (tops (inner e.0)) before) (λ e. at e.0 == j) es ready in
         let bs = slot_plan most below plan fs in
         let more = flat_map (λ i. slot_plan most below plan (part at es i)) js in
         let here = bucket_or_node (nat_le (length fs) most) inner below ps fs in

@@ -22,7 +22,7 @@ use Rattle.ild_typed.proofs.NodeMaps.{bits-read}
 use Rattle.ild_node_slots.specs.Form.{IsNode}
 use Rattle.ild_node_slots.specs.Told.{EntryTold, EntryNext}
 use Rattle.ild_node_slots.proofs.Entries.{pair-found}
-use Rattle.ild_node_slots.proofs.Fits.{parts-of, not-listed}
+use Rattle.ild_node_slots.proofs.Fits.{parts-of, not-listed, same_pair}
 use Rattle.ild_node_slots.proofs.Shapes.{whole_map}
 use Rattle.ild_node_slots.proofs.Telling.{EntriesAhead, GivesEntry, entries-fall, entries-miss}
 use Rattle.ild_bulk_walker.proofs.Stepping.{steps-turned}
@@ -243,21 +243,13 @@ slots-are p i (empty ∷ slots) all = slots-are p (i + 1) slots all.1
 slots-are p i (bucket es ∷ slots) all = let here = entries-are i es all.0.3 in let more = slots-are p (i + 1) slots all.1 in (λ k. here k ++ more k)
 slots-are p i (child id ∷ slots) all = let here = id-read id all.0.0 in let more = slots-are p (i + 1) slots all.1 in (λ k. element_by i None (here k) ++ more k)
 
-same-pair : (m n : List ℕ) (ds es : Items) → ◌≡◌ {A = Option (Data × Data)} (Some (bytes m, list ds)) (Some (bytes n, list es)) → (m ≡ n) × (ds ≡ es)
-same-pair m n ds es is =
-    let both : ◌≡◌ {A = Data × Data} (bytes m, list ds) (bytes n, list es) = cc in
-    (same_bytes m n (ap (λ (x : Data × Data). x.0) both), same_items ds es (ap (λ (x : Data × Data). x.1) both))
-  where
-    same_bytes : (m n : List ℕ) → bytes m ≡ bytes n → m ≡ n
-    same_bytes m n is = cc
-
     same_items : (ds es : Items) → list ds ≡ list es → ds ≡ es
     same_items ds es is = cc
 
 -- the steps of what was read are those of the node's slots
 pub node-steps : (p : HamtShape) (t : Data) (ones : List ℕ) (parts : Items) (slots : List TrieSlot) → pair_in t ≡ Some (bytes ones, list parts) → t ≡ node_data slots → IsNode p slots → elements_todo 0 (map_bits ones 0 (2 ^ p.width)) parts ≡ node_todo 0 slots
 node-steps p t ones parts slots pair is form =
-    let same = same-pair ones (map_of slots) parts (items_from (flat_map elements_of slots)) (sym pair ∙ ap pair_in is) in
+    let same = same_pair ones (map_of slots) parts (items_from (flat_map elements_of slots)) (sym pair ∙ ap pair_in is) in
     let bits : map_bits (map_of slots) 0 (2 ^ p.width) ≡ map is_used slots =
     ap (map_bits (map_of slots) 0) (sym form.many) ∙ bits-read slots (whole_map p.width (length slots) p.wide form.many) in
     (λ k. elements_todo 0 (map_bits (same.0 k) 0 (2 ^ p.width)) (same.1 k)) ∙ ap (λ bs. elements_todo 0 bs (items_from (flat_map elements_of slots))) bits ∙ slots-are p 0 slots form.each

@@ -1,8 +1,8 @@
 -- Opening a child: what it gives, and what is still to be given once its slots are to be done.
 use Rattle.std.proofs.Common.{◌≡◌, ℕ, suc, ◌+◌, ◌-◌, ◌==◌, ◌&&◌, Bool, true, false, List, [], ◌∷◌, ◌++◌, length, map, refl, sym, ap, ◌∙◌, subst, arith, append_assoc}
-use Rattle.std.specs.List.{AllByRecursion}
 use Rattle.std.proofs.lemmas.Bool.{and_parts, and_from, eq-eqb, eqb-true}
 use Rattle.std.proofs.lemmas.List.{length-append}
+use Rattle.ild_data.proofs.AllOf.{all_append, all_split}
 use Rattle.ild_data.specs.Data.{Data}
 use Rattle.ild_data.specs.Trie.{TrieSlot, empty, bucket, child, at_depth}
 use Rattle.ild_data.specs.declared.hamt_shape.HamtShape.{HamtShape}
@@ -45,14 +45,6 @@ fits-snoc h p path i j k =
     more n = omega arith
 
 -- ---- lists of entries
-
-pub all-join : {X : Type 0} (P : X → Type 0) (xs ys : List X) → AllByRecursion P xs → AllByRecursion P ys → AllByRecursion P (xs ++ ys)
-all-join P [] ys a b = b
-all-join P (x ∷ xs) ys a b = (a.0, all-join P xs ys a.1 b)
-
-pub all-split : {X : Type 0} (P : X → Type 0) (xs ys : List X) → AllByRecursion P (xs ++ ys) → AllByRecursion P xs × AllByRecursion P ys
-all-split P [] ys a = (tt, a)
-all-split P (x ∷ xs) ys a = let rest = all-split P xs ys a.1 in ((a.0, rest.0), rest.1)
 
 fit-both : (h : List ℕ → List ℕ) (p : HamtShape) (path : List ℕ) (i j : ℕ) (es : List (List ℕ × Data)) → AllFit h p path i es → AtIndex h p (suc (length path)) j es → AllFit h p (path ++ i ∷ []) j es
 fit-both h p path i j [] fit at = tt
@@ -138,7 +130,7 @@ slots-on h p held path i j todo given [] here more fit gives rest =
 slots-on h p held path i j todo given (s ∷ slots) here more fit gives rest =
     let first : List (List ℕ × Data) = gives.0 in
     let others : List (List ℕ × Data) = gives.1 in
-    let fits = all-split (λ e. fits h p path i e.0 ≡ true) first others (subst (λ xs. AllFit h p path i xs) gives.2 fit) in
+    let fits = all_split (λ e. fits h p path i e.0 ≡ true) first others (subst (λ xs. AllFit h p path i xs) gives.2 fit) in
     let behind = slots-on h p held path i (j + 1) todo (given + length first) slots others more fits.1 gives.5
     (subst (λ n. StillGives h p held todo (path ++ i ∷ []) n more) (ap (λ xs. given + length xs) gives.2 ∙ sym (sum_of given first others)) rest) in
     subst (λ ts. StillGives h p held ts (path ++ i ∷ []) given (here ++ more)) (sym (append_assoc (slot_todo j s) (node_todo (j + 1) slots) todo))
@@ -166,7 +158,7 @@ slots-off h p held path i j todo given (s ∷ slots) es all =
         is = first.parts.is ∙ ap (λ xs. first.here ++ xs) others.parts.is ∙ sym (append_assoc first.here others.here others.parts.more);
         rest = subst (λ n. StillGives h p held todo (path ++ i ∷ []) n others.parts.more) (sum_of given first.here others.here) others.parts.rest;
       };
-      fit = all-join (λ e. fits h p path i e.0 ≡ true) first.here others.here (fit-child h p path i j first.here first.fit) others.fit;
+      fit = all_append (λ e. fits h p path i e.0 ≡ true) first.here others.here (fit-child h p path i j first.here first.fit) others.fit;
       gives = (first.here, others.here, refl, fit-at h p path i j first.here first.fit, first.gives, others.gives);
     }
 

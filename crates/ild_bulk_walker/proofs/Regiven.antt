@@ -1,12 +1,14 @@
 -- The blocks of a trie that is held give its entries.
 use Rattle.std.proofs.Common.{◌≡◌, ℕ, zero, suc, ◌+◌, ◌-◌, ◌<◌, ◌≤◌, ◌^◌, ◌==◌, nat_le, Bool, true, false, cond, List, [], ◌∷◌, ◌++◌, length, map, Option, Some, None, option_map, refl, sym, ap, ◌∙◌, subst, arith, flat_map}
 use Rattle.std.specs.Prelude.{is_some}
-use Rattle.std.specs.List.{AllByRecursion, range_with_len, filter}
+use Rattle.std.specs.List.{AllByRecursion, range_with_len}
 use Rattle.std.specs.FinMap.{find}
 use Rattle.std.specs.FinMap.Entries.{length-put}
 use Rattle.std.proofs.lemmas.Bool.{eqb-true, le-leb, leb-false}
 use Rattle.std.proofs.lemmas.Option.{same_Some}
 use Rattle.std.proofs.lemmas.List.FromFn.{length-map-range_with_len}
+use Rattle.ild_hamt_trie.proofs.Levels.{levels-first}
+use Rattle.ild_data.proofs.AllOf.{all_filter, all_append}
 use Rattle.ild_data.specs.declared.hamt_shape.HamtShape.{HamtShape}
 use Rattle.ild_data.specs.ByteOrder.{bytewise, in_byte_order, IsInOrder}
 use Rattle.ild_data.specs.Data.{Data}
@@ -19,26 +21,17 @@ use Rattle.ild_hamt_trie.proofs.Node.{slots-node, no_node, trie-sorted}
 use Rattle.ild_hamt_trie.proofs.Parts.{total, in_order-sorted, in_order-part}
 use Rattle.ild_hamt_trie.proofs.Slots.{all_some-cons, all_some-length}
 use Rattle.ild_hamt_trie.proofs.Walk.{sorted-walk}
-use Rattle.ild_node_slots.proofs.Shapes.{whole_map, levels_suc, levels_all}
+use Rattle.ild_node_slots.proofs.Shapes.{whole_map, levels_suc}
 use Rattle.ild_node_slots.specs.Form.{IsNode}
 use Rattle.ild_bulk_walker.specs.Gives.{SlotGives, AtIndex, SlotsGive, TreeGives, RootGives}
 use Rattle.ild_bulk_walker.specs.Trees.{IsHeldNode, HoldsBelow, IsTrieOf}
-use Rattle.ild_bulk_walker.proofs.Opening.{all-join}
 use Rattle.ild_bulk_walker.proofs.Tried.{ordered, walk_step}
 
 -- ---- what holds of all entries holds of them in the order of the trie
 
-all-filter : {X : Type 0} (P : X → Type 0) (f : X → Bool) (xs : List X) → AllByRecursion P xs → AllByRecursion P (filter f xs)
-all-filter P f [] all = tt
-all-filter P f (x ∷ xs) all = by (f x) (all-filter P f xs all.1)
-  where
-    by : (b : Bool) → AllByRecursion P (filter f xs) → AllByRecursion P (cond b (x ∷ filter f xs) (filter f xs))
-    by true rest = (all.0, rest)
-    by false rest = rest
-
 all-flat : {X : Type 0} (P : X → Type 0) (f : ℕ → List X) (js : List ℕ) → ((j : ℕ) → AllByRecursion P (f j)) → AllByRecursion P (flat_map f js)
 all-flat P f [] each = tt
-all-flat P f (j ∷ js) each = all-join P (f j) (flat_map f js) (each j) (all-flat P f js each)
+all-flat P f (j ∷ js) each = all_append P (f j) (flat_map f js) (each j) (all-flat P f js each)
 
 all-or : (P : List ℕ × Data → Type 0) (b : Bool) (below : List (List ℕ × Data) → List (List ℕ × Data)) (es : List (List ℕ × Data)) → AllByRecursion P es → AllByRecursion P (below es) → AllByRecursion P (part_or b below es)
 all-or P true below es here beneath = here
@@ -53,7 +46,7 @@ all-walk p P h zero depth es all = all-none p P h depth es all
 all-walk p P h (suc left) depth es all =
     subst (λ (xs : List (List ℕ × Data)). AllByRecursion P xs) (sym (walk_step h p left depth es))
     (all-flat P (λ i. ordered h p left depth (part (at_depth h p depth) es i)) (range_with_len 0 (2 ^ p.width)) (λ i.
-    let here = all-filter P (λ e. at_depth h p depth e.0 == i) es all in
+    let here = all_filter P (λ e. at_depth h p depth e.0 == i) es all in
     all-or P (nat_le (length (part (at_depth h p depth) es i)) p.bucket) (in_trie_order h p left (depth + 1)) (part (at_depth h p depth) es i) here
     (all-walk p P h left (depth + 1) (part (at_depth h p depth) es i) here)))
 
@@ -169,7 +162,7 @@ tree-given p h held (suc left) depth slots es order holds is =
 some-data : (p : HamtShape) (h : List ℕ → List ℕ) (slots : List TrieSlot) (es : List (List ℕ × Data)) → length slots ≡ 2 ^ p.width → node_of h p (trie_levels p - 0) 0 es ≡ Some (node_data slots) → slots_at h p (trie_levels p - 1) 0 es ≡ Some slots
 some-data p h slots es long is =
     let left : ℕ = trie_levels p - 1 in
-    let s = slots-node h p left 0 es (node_data slots) (ap (λ n. node_of h p n 0 es) (sym (levels_all p)) ∙ is) in
+    let s = slots-node h p left 0 es (node_data slots) (ap (λ n. node_of h p n 0 es) (sym (levels-first p)) ∙ is) in
     s.1 ∙ ap Some (one-node p s.0 slots (slots-long p h left 0 es s.0 s.1) long (sym s.2))
 
 pub trie-is-given : (p : HamtShape) (h : List ℕ → List ℕ) (held : List (List ℕ)) (slots : List TrieSlot) (es : List (List ℕ × Data)) → IsNode p slots → IsTrieOf h p held slots es → RootGives h p held (trie_levels p - 1) slots es

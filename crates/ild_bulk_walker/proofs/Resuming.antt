@@ -1,7 +1,7 @@
 -- What blocks that were read say over every store.
 use Rattle.std.proofs.Common.{◌≡◌, ◌↔◌, ℕ, ◌+◌, ◌≤◌, List, [], ◌∷◌, ◌++◌, Option, Some, None, sym, subst, arith}
-use Rattle.std.specs.List.{AllByRecursion}
 use Rattle.std.proofs.lemmas.List.{length-append}
+use Rattle.ild_data.proofs.AllOf.{all_append, all_split}
 use Rattle.ild_data.specs.Bytes.{AreBytes}
 use Rattle.ild_data.specs.Data.{Data}
 use Rattle.ild_data.specs.declared.hamt_shape.HamtShape.{HamtShape}
@@ -10,25 +10,24 @@ use Rattle.ild_data.specs.Trie.{TrieSlot}
 use Rattle.ild_edges.specs.Gained.{AreHeld, FromBlocks, IsGot, OnlyReads}
 use Rattle.ild_edges.specs.Store.{Moment, block_at}
 use Rattle.ild_edges.specs.Told.{IfTold}
-use Rattle.ild_edges.proofs.Reading.{reads_then}
+use Rattle.ild_edges.proofs.Reading.{all_later}
 use Rattle.ild_bulk_walker.specs.Ahead.{StillAhead}
 use Rattle.ild_bulk_walker.specs.inside.Stepping.{SameNodes, SameWhere}
 use Rattle.ild_bulk_walker.specs.Fetching.{OnlyGets}
 use Rattle.ild_bulk_walker.specs.Gives.{IsNodeOf}
 use Rattle.ild_bulk_walker.specs.Reads.{HasRead}
 use Rattle.ild_bulk_walker.specs.declared.walker.Walker.{Walker}
-use Rattle.ild_bulk_walker.proofs.Opening.{all-join, all-split}
 
 -- ---- blocks that are held
 
 holds-both : (held xs ys : List (List ℕ)) → AreHeld xs held → AreHeld ys held → AreHeld (xs ++ ys) held
-holds-both held xs ys = all-join (λ b. block_at held (id_of b) ≡ Some b) xs ys
+holds-both held xs ys = all_append (λ b. block_at held (id_of b) ≡ Some b) xs ys
 
 holds-first : (held xs ys : List (List ℕ)) → AreHeld (xs ++ ys) held → AreHeld xs held
-holds-first held xs ys all = (all-split (λ b. block_at held (id_of b) ≡ Some b) xs ys all).0
+holds-first held xs ys all = (all_split (λ b. block_at held (id_of b) ≡ Some b) xs ys all).0
 
 holds-second : (held xs ys : List (List ℕ)) → AreHeld (xs ++ ys) held → AreHeld ys held
-holds-second held xs ys all = (all-split (λ b. block_at held (id_of b) ≡ Some b) xs ys all).1
+holds-second held xs ys all = (all_split (λ b. block_at held (id_of b) ≡ Some b) xs ys all).1
 
 told-none : (told : Option (List (List ℕ))) → IfTold told (λ held. AreHeld [] held)
 told-none None = tt
@@ -52,10 +51,6 @@ holds-one held id block named q = subst (λ i. block_at held i ≡ Some block) n
 
 pub only-reads : (most : ℕ) (m n : Moment) → OnlyGets most m n → OnlyReads m n
 only-reads most m n x = record { later = x.later; blocks = x.blocks; given = x.given; puts = x.puts }
-
-got-later : (m n : Moment) → OnlyReads m n → (bs : List (List ℕ)) → AllByRecursion (IsGot m) bs → AllByRecursion (IsGot n) bs
-got-later m n only [] all = tt
-got-later m n only (b ∷ bs) all = (record { before = all.0.before; behind = all.0.behind; get = all.0.get; since = reads_then all.0.behind m n all.0.since only }, got-later m n only bs all.1)
 
 -- ---- what was read
 
@@ -82,9 +77,9 @@ read-both p P Q R besides m n o u v w same since both a b sum x y =
     let long = length-append x.blocks y.blocks in
     record {
       blocks = x.blocks ++ y.blocks;
-      bytes = all-join AreBytes x.blocks y.blocks x.bytes y.bytes;
-      nodes = all-join (λ b. (slots : List TrieSlot) × IsNodeOf p b slots) x.blocks y.blocks x.nodes y.nodes;
-      got = all-join (IsGot o) x.blocks y.blocks (got-later n o since x.blocks x.got) y.got;
+      bytes = all_append AreBytes x.blocks y.blocks x.bytes y.bytes;
+      nodes = all_append (λ b. (slots : List TrieSlot) × IsNodeOf p b slots) x.blocks y.blocks x.nodes y.nodes;
+      got = all_append (IsGot o) x.blocks y.blocks (all_later n o since x.blocks x.got) y.got;
       held = told-both m.blocks x.blocks y.blocks x.held (subst (λ told. IfTold told (λ held. AreHeld y.blocks held)) same y.held);
       gets = let s = x.gets in let q = y.gets in omega arith;
       left = λ held k all l.

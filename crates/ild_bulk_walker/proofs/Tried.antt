@@ -10,6 +10,8 @@ use Rattle.std.proofs.lemmas.Bool.{and_parts, and_from, cases_lt, cases_Bool, lt
 use Rattle.std.proofs.lemmas.List.{same_lists, length-append, length-map, get_or-map}
 use Rattle.std.proofs.lemmas.List.Folds.{flat_map-map}
 use Rattle.std.proofs.lemmas.List.FromFn.{get_or-map-range_with_len, length-map-range_with_len}
+use Rattle.ild_hamt_trie.proofs.Pairs.{none_from}
+use Rattle.ild_hamt_trie.proofs.Levels.{levels-first}
 use Rattle.ild_data.specs.ByteOrder.{bytewise, in_byte_order, no_key_twice, IsInOrder}
 use Rattle.ild_data.specs.Data.{Data}
 use Rattle.ild_data.specs.Spell.{spell, id_of}
@@ -22,7 +24,7 @@ use Rattle.ild_edges.proofs.Held.{block_at_id}
 use Rattle.ild_typed.specs.Node.{IsSlot}
 use Rattle.ild_typed.proofs.NodeEntries.{less, true_of}
 use Rattle.ild_hamt_trie.specs.Walk.{part_or, in_trie_order}
-use Rattle.ild_node_slots.proofs.Shapes.{levels_suc, levels_all}
+use Rattle.ild_node_slots.proofs.Shapes.{levels_suc}
 use Rattle.ild_hamt_trie.proofs.Fold.{or_else, find-append, slot-many}
 use Rattle.ild_hamt_trie.proofs.Gather.{StandApart, part-gathered, slots-gathered}
 use Rattle.ild_hamt_trie.proofs.Index.{index_below}
@@ -55,10 +57,6 @@ find-absent at i (e ∷ es) q all other =
     (λ apart. ap (λ b. cond b (Some e.1) (find bytewise q es)) apart ∙ find-absent at i es q all.1 other)
     (cases_Bool (eq_by_cmp bytewise q e.0))
 
-none-found : (o : Option Data) → not (is_some o) ≡ true → o ≡ None
-none-found None is = refl
-none-found (Some d) is = absurd cc
-
 or_nothing : (o x : Option Data) → o ≡ None → x ≡ None → or_else o x ≡ None
 unfolding or_else
 or_nothing o x a b = rw (a, b) refl
@@ -68,7 +66,7 @@ distinct-append [] fs a b none = b
 distinct-append (e ∷ es) fs a b none =
     let parts = and_parts (not (is_some (find bytewise e.0 es))) (no_key_twice es) a in
     and_from (not (is_some (find bytewise e.0 (es ++ fs)))) (no_key_twice (es ++ fs))
-    (ap (λ o. not (is_some o)) (find-append e.0 es fs ∙ or_nothing (find bytewise e.0 es) (find bytewise e.0 fs) (none-found (find bytewise e.0 es) parts.0) none.0))
+    (ap (λ o. not (is_some o)) (find-append e.0 es fs ∙ or_nothing (find bytewise e.0 es) (find bytewise e.0 fs) (none_from (find bytewise e.0 es) parts.0) none.0))
     (distinct-append es fs parts.1 b none.1)
 
 one-more : (n : ℕ) → n + 1 ≡ suc n
@@ -81,7 +79,7 @@ length-sorted : (es : List (List ℕ × Data)) → no_key_twice es ≡ true → 
 length-sorted [] once = refl
 length-sorted (e ∷ es) once =
     let parts = and_parts (not (is_some (find bytewise e.0 es))) (no_key_twice es) once in
-    length-new e.0 e.1 (in_byte_order es) (in_order-sorted es) (find-sorted e.0 es ∙ none-found (find bytewise e.0 es) parts.0) ∙ ap suc (length-sorted es parts.1)
+    length-new e.0 e.1 (in_byte_order es) (in_order-sorted es) (find-sorted e.0 es ∙ none_from (find bytewise e.0 es) parts.0) ∙ ap suc (length-sorted es parts.1)
 
 -- ---- how many nodes
 
@@ -356,7 +354,7 @@ given-is-trie p h held slots es form gives =
     record {
       distinct = t.distinct;
       order = t.order ∙ ap (λ n. in_trie_order h p n 0 (in_byte_order es)) (sym (levels_suc p));
-      tree = trie-sorted h p es 0 t.distinct ∙ ap (λ n. node_of h p n 0 (in_byte_order es)) (levels_all p) ∙ node-slots h p left 0 (in_byte_order es) ∙ ap (option_map node_data) t.node;
+      tree = trie-sorted h p es 0 t.distinct ∙ ap (λ n. node_of h p n 0 (in_byte_order es)) (levels-first p) ∙ node-slots h p left 0 (in_byte_order es) ∙ ap (option_map node_data) t.node;
       holds = subst (λ n. HoldsBelow h p held n 0 (in_byte_order es)) (sym (levels_suc p)) t.holds;
     }
 

@@ -17,7 +17,7 @@ use Rattle.ild_cbor.proofs.Steps.{bind_ok, demand_ok, chosen, ok_is}
 use Rattle.ild_cbor.proofs.Again.{item_again}
 use Rattle.ild_cbor.proofs.Taken.{item_taken}
 
-all_again : (b : List ℕ) (d : Data) → IsBlockOf b d → all_at b ≡ Ok d
+pub all_again : (b : List ℕ) (d : Data) → IsBlockOf b d → all_at b ≡ Ok d
 unfolding all_at
 all_again b d h =
     let w = h.within in

@@ -1,7 +1,8 @@
 -- The parts of a tree in its spelling: what stands before each, and what behind.
-use Rattle.std.proofs.Common.{◌≡◌, ℕ, zero, suc, ◌+◌, ◌-◌, Bool, true, false, cond, List, [], ◌∷◌, ◌++◌, length, length-append, append_assoc, append-nil, take, drop, Option, Some, None, refl, sym, ap, subst, ◌∙◌, arith}
+use Rattle.std.proofs.Common.{◌≡◌, ℕ, zero, suc, ◌+◌, ◌-◌, Bool, true, false, cond, List, [], ◌∷◌, ◌++◌, length, length-append, append_assoc, append-nil, take, drop, Some, refl, sym, ap, subst, ◌∙◌, arith}
 use Rattle.std.specs.Prelude.{slice_get, option_map, option_and_then}
 use Rattle.std.proofs.lemmas.List.{take_at, drop_at}
+use Rattle.ild_data.proofs.Options.{chain_some}
 use Rattle.ild_data.specs.Data.{Data, null, boolean, integer, text, bytes, list, map, link, Items, no_items, item, Members, no_members, member, items_list, members_list}
 use Rattle.ild_data.specs.Spell.{head, spell, spell_text, spell_items, spell_members}
 use Rattle.ild_data.specs.Key.{same_text, value_at}
@@ -52,10 +53,6 @@ record SpanIs (t u : Data) (s : Span) : Type 0 where
   pub within : Within (spell t) front (spell u)
   pub start : length front ≡ s.start
   pub size : length (spell u) ≡ s.size
-
-chain_some : {A B : Type 0} (f : A → Option B) (o : Option A) (y : B) → option_and_then f o ≡ Some y → (x : A) × (o ≡ Some x) × (f x ≡ Some y)
-chain_some f None y e = absurd cc
-chain_some f (Some x) y e = (x, refl, e)
 
 span_step : (t v : Data) (i : ℕ) (q : List ℕ) (s : Span) → part_of t i ≡ Some v → span_of v q ≡ Some s → span_of t (i ∷ q) ≡ Some (beneath (place_of t i) s)
 span_step t v i q s e f = ap (option_and_then (λ u. option_map (beneath (place_of t i)) (span_of u q))) e ∙ ap (option_map (beneath (place_of t i))) f

@@ -4,14 +4,13 @@ use Rattle.std.specs.Prelude.{Contains}
 use Rattle.std.specs.List.{AllByRecursion}
 use Rattle.std.proofs.lemmas.Option.{same_Some}
 use Rattle.ild_beneath.specs.Children.{AreOf, Child, children_in, children_of}
+use Rattle.ild_data.proofs.AllOf.{all_split, all_contained}
 use Rattle.ild_data.specs.Spell.{id_of}
 use Rattle.ild_edges.specs.Store.{block_at}
 use Rattle.ild_schema.specs.declared.number.TypeNo.{TypeNo}
 use Rattle.ild_schema.specs.declared.row.Row.{Row}
-use Rattle.ild_typed.proofs.TreeNodes.{all_split}
 use Rattle.ild_typed.specs.Nested.{IsBlock}
 use Rattle.ild_typed_places.proofs.Joining.{All}
-use Rattle.ild_typed_places.proofs.Listing.{all_contained}
 use Rattle.ild_typed_places.specs.Places.{Places, nowhere, place, blocks_in}
 use Rattle.ild_compare.specs.Reached.{AreAlike, IsAlike}
 use Rattle.ild_compare.proofs.Placing.{told}

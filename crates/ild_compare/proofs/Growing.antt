@@ -1,19 +1,16 @@
 -- The list of the places that a walk has met, as it grows.
-use Rattle.std.proofs.Common.{◌≡◌, ℕ, zero, suc, ◌+◌, ◌<◌, List, [], ◌∷◌, ◌++◌, length, map, get_or, Some, refl, sym, ap, ◌∙◌, subst, arith}
+use Rattle.std.proofs.Common.{◌≡◌, ℕ, zero, suc, ◌+◌, ◌<◌, List, [], ◌∷◌, ◌++◌, length, map, get_or, Some, sym, ap, ◌∙◌, subst, arith}
 use Rattle.std.specs.Prelude.{Contains, slice_get}
 use Rattle.std.specs.List.{AllByRecursion}
 use Rattle.std.proofs.lemmas.List.{append-nil, append_assoc}
 use Rattle.std.proofs.lemmas.List.Elements.{Contains-append_left, Contains-append_right}
 use Rattle.std.proofs.lemmas.Option.{none-some, same_Some}
+use Rattle.ild_data.proofs.AllOf.{contains_first, all_append}
 use Rattle.ild_beneath.specs.Children.{Child}
 use Rattle.ild_dirty.specs.Beneath.{child_seen}
 use Rattle.ild_dirty.specs.declared.beneath.Child.{Child as Spot}
 use Rattle.ild_typed.proofs.Rooms.{all_more}
-use Rattle.ild_typed.proofs.Treed.{all_append}
 use Rattle.ild_compare.specs.inside.Spots.{Grows}
-
-pub contains_first : {X : Type 0} (x : X) (xs : List X) → Contains (x ∷ xs) x
-contains_first x xs = (zero, omega arith, refl)
 
 -- what was there is there
 pub still_contains : (old more : List Child) (c : Child) → Contains old c → Contains (old ++ more) c

@@ -4,6 +4,7 @@ use Rattle.std.specs.Prelude.{Contains}
 use Rattle.std.specs.List.{AllByRecursion}
 use Rattle.std.specs.Cmp.Lexicographic.{same_text as texts_same, other_text}
 use Rattle.ild_beneath.specs.Children.{AreOf, Child, children_in, children_of}
+use Rattle.ild_data.proofs.AllOf.{all_split}
 use Rattle.ild_data.specs.Bytes.{AreBytes}
 use Rattle.ild_data.specs.Key.{same_text}
 use Rattle.ild_data.specs.Limits.{deepest}
@@ -15,7 +16,6 @@ use Rattle.ild_schema.specs.declared.number.TypeNo.{TypeNo}
 use Rattle.ild_schema.specs.declared.row.Row.{Row}
 use Rattle.ild_typed.proofs.Rooms.{all_more}
 use Rattle.ild_typed.proofs.TreeKept.{one_stands}
-use Rattle.ild_typed.proofs.TreeNodes.{all_split}
 use Rattle.ild_typed.proofs.TreeValues.{whole_tree}
 use Rattle.ild_typed.specs.Nested.{IsBlock}
 use Rattle.ild_typed.specs.Schema.{IsSchema}

@@ -9,6 +9,7 @@ use Rattle.ild_beneath.proofs.Heights.{fits_high}
 use Rattle.ild_beneath.proofs.Reading.{reads}
 use Rattle.ild_beneath.specs.Children.{AreOf, Child, children_in, children_of}
 use Rattle.ild_cbor.specs.Block.{IsBlockOf}
+use Rattle.ild_data.proofs.AllOf.{all_split, all_contained}
 use Rattle.ild_data.proofs.Apart.{one_meaning}
 use Rattle.ild_data.specs.Data.{Data}
 use Rattle.ild_data.specs.Limits.{IsWithin, deepest}
@@ -21,22 +22,17 @@ use Rattle.ild_schema.specs.Value.{Value}
 use Rattle.ild_schema.specs.declared.number.TypeNo.{TypeNo}
 use Rattle.ild_schema.specs.declared.row.Row.{Row}
 use Rattle.ild_typed.proofs.TreeBlocks.{blocks_within}
-use Rattle.ild_typed.proofs.TreeNodes.{all_split}
 use Rattle.ild_typed.specs.Nested.{IsBlock}
 use Rattle.ild_typed.specs.Schema.{IsSchema}
 use Rattle.ild_typed.specs.Stands.{IsFrame, Storable, bare, blocks_of}
 use Rattle.ild_typed_places.proofs.Joining.{All, all_both}
-use Rattle.ild_typed_places.proofs.Listing.{all_contained, all_one}
+use Rattle.ild_typed_places.proofs.Listing.{all_one}
 use Rattle.ild_typed_places.proofs.Telling.{to_places}
 use Rattle.ild_typed_places.specs.Places.{Places, nowhere, place, blocks_in, joined, places_in}
 use Rattle.ild_compare.specs.Reached.{LeadsTo}
 
 pub bare_frame : IsFrame bare
 bare_frame = record { less = omega arith; apart = λ c d same. same; fits = λ d tree. tree; blocks = tt }
-
-pub all_pairs : {X : Type 0} (P Q : X → Type 0) (xs : List X) → AllByRecursion P xs → AllByRecursion Q xs → AllByRecursion (λ x. P x × Q x) xs
-all_pairs P Q [] a b = tt
-all_pairs P Q (x ∷ xs) a b = ((a.0, b.0), all_pairs P Q xs a.1 b.1)
 
 module _ (rows : List Row) (ty : TypeNo) where
   -- a block tells what the data tell that it spells

@@ -3,6 +3,7 @@ use Rattle.std.proofs.Common.{◌≡◌, ◌≢◌, ◌⊎◌, inl, inr, ℕ, Li
 use Rattle.std.specs.Prelude.{Contains, Result, Ok, Err}
 use Rattle.std.proofs.lemmas.Option.{none-some}
 use Rattle.ild_beneath.specs.Children.{AreOf, children_of}
+use Rattle.ild_data.proofs.AllOf.{all_both}
 use Rattle.ild_data.specs.Bytes.{AreBytes}
 use Rattle.ild_data.specs.Limits.{deepest}
 use Rattle.ild_data.specs.Spell.{id_of}
@@ -34,7 +35,7 @@ use Rattle.ild_compare.specs.inside.Walked.{WalkAnswer, Walks}
 use Rattle.ild_compare.specs.declared.compared.Compared.{Compared}
 use Rattle.ild_compare.specs.declared.compared.Compared.TheVariants as C
 use Rattle.ild_compare.proofs.Alike.{one_home}
-use Rattle.ild_compare.proofs.Placing.{all_pairs, are_blocks, bare_frame, home, home_all, led, placed_block, root_tells}
+use Rattle.ild_compare.proofs.Placing.{are_blocks, bare_frame, home, home_all, led, placed_block, root_tells}
 
 module _ (h : List ℕ → List ℕ) (rows : List Row) (schema : IsSchema rows) (ty : TypeNo) where
   abbrev Standing : List ℕ → List (List ℕ) → Value → Type 0
@@ -65,7 +66,7 @@ module _ (h : List ℕ → List ℕ) (rows : List Row) (schema : IsSchema rows) 
     pub home_held : All (λ b. IsBlock b × (block_at held (id_of b) ≡ Some b)) (home h rows schema ty v x.stands.tree x.stands.storable)
     home_held =
         home_all h rows schema ty v x.stands.tree x.stands.storable (λ b. IsBlock b × (block_at held (id_of b) ≡ Some b))
-        (all_pairs IsBlock (λ b. block_at held (id_of b) ≡ Some b) (blocks_of bare h rows ty v x.stands.tree) (are_blocks h rows schema ty v x.stands.tree x.stands.storable) x.stands.all)
+        (all_both IsBlock (λ b. block_at held (id_of b) ≡ Some b) (blocks_of bare h rows ty v x.stands.tree) (are_blocks h rows schema ty v x.stands.tree x.stands.storable) x.stands.all)
 
   pub are_one : (root : List ℕ) (left right : List (List ℕ)) (v w : Value) → AreAlike rows ty root (Some left) (Some right) → Standing root left v → Standing root right w → v ≡ w
   are_one root left right v w alike x y =

@@ -4,6 +4,7 @@ use Rattle.std.specs.Prelude.{Contains, Ok, Err}
 use Rattle.std.specs.List.{AllByRecursion}
 use Rattle.std.proofs.lemmas.List.{take_all, take_more, take-append-le}
 use Rattle.ild_beneath.specs.Children.{Child, children_of}
+use Rattle.ild_data.proofs.AllOf.{all_append, all_contained}
 use Rattle.ild_data.specs.Spell.{id_of}
 use Rattle.ild_edges.specs.Count.{Rose}
 use Rattle.ild_edges.specs.Store.{Moment, block_at}
@@ -16,8 +17,6 @@ use Rattle.ild_open_parts.specs.declared.fault.OpenFault.TheVariants as F
 use Rattle.ild_schema.specs.declared.number.TypeNo.{TypeNo}
 use Rattle.ild_schema.specs.declared.row.Row.{Row}
 use Rattle.ild_typed.proofs.Rooms.{all_more}
-use Rattle.ild_typed.proofs.Treed.{all_append}
-use Rattle.ild_typed_places.proofs.Listing.{all_contained}
 use Rattle.ild_compare.specs.inside.Fetching.{Lacks}
 use Rattle.ild_compare.specs.Reached.{IsAlike, IsBeneath, IsLacking, IsMet, IsUnder, LeadsTo}
 use Rattle.ild_compare.specs.inside.Spots.{Grows}

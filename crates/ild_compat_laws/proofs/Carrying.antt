@@ -5,8 +5,9 @@ use Rattle.std.specs.List.{AllByRecursion, flat_map}
 use Rattle.std.specs.Option.{option_map_or}
 use Rattle.std.proofs.lemmas.Bool.{false≢true}
 use Rattle.std.proofs.lemmas.Option.{same_Some, none-some, slice_get_within}
+use Rattle.ild_typed.proofs.WalkSound.{any_is}
 use Rattle.ild_data.specs.Data as T
-use Rattle.ild_data.specs.Data.{Data, depth}
+use Rattle.ild_data.specs.Data.{Data}
 use Rattle.ild_data.specs.Key.{IsBelow, Rises, key_cmp}
 use Rattle.ild_data.specs.declared.hamt_shape.HamtShape.{HamtShape}
 use Rattle.ild_schema.specs.declared.number.Slot.{Slot}
@@ -21,10 +22,10 @@ use Rattle.ild_schema.specs.declared.def.Member.{Member}
 use Rattle.ild_schema.specs.declared.def.EnumMember.{EnumMember}
 use Rattle.ild_schema.specs.declared.row.Row.{Row}
 use Rattle.ild_schema.specs.Value as V
-use Rattle.ild_schema.specs.Value.{Value, Values, Pairs, Optionals, values_list, pairs_list, optionals_list}
+use Rattle.ild_schema.specs.Value.{Value, Values, Pairs, values_list, pairs_list}
 use Rattle.ild_schema.specs.Slots.{form_of, plainly}
 use Rattle.ild_typed.specs.Layer as L
-use Rattle.ild_typed.specs.Layer.{Layer, as_any, as_map}
+use Rattle.ild_typed.specs.Layer.{Layer, as_any}
 use Rattle.ild_typed.specs.Blocks.{hamt_nodes, nodes, nodes_of_values, nodes_of_pairs}
 use Rattle.ild_typed.specs.Composed.{Hamts, composed, any_data, map_form, member_form, enum_form}
 use Rattle.ild_typed.specs.Fits.{FormFits, ValueFits}
@@ -94,16 +95,6 @@ any_value at rows (V.map ps) l x e k = absurd (none-some l e)
 any_value at rows (V.struct os) l x e k = let m = map_from L.struct _ l e in absurd (none-some x (ap as_any (same_Some (L.struct m.item) l m.made) ∙ k))
 any_value at rows (V.union n v) l x e k = absurd (none-some l e)
 
-same_any : (x t : Data) → any_data x ≡ Some t → x ≡ t
-same_any T.null t e = absurd (none-some t e)
-same_any (T.boolean b) t e = same_Some (T.boolean b) t e
-same_any (T.integer n) t e = same_Some (T.integer n) t e
-same_any (T.text s) t e = same_Some (T.text s) t e
-same_any (T.bytes s) t e = same_Some (T.bytes s) t e
-same_any (T.list ds) t e = same_Some (T.list ds) t e
-same_any (T.map ms) t e = same_Some (T.map ms) t e
-same_any (T.link s) t e = same_Some (T.link s) t e
-
 any_itself : (t : Data) → IsNotNull t → any_data t ≡ Some t
 any_itself T.null h = absurd h
 any_itself (T.boolean b) h = refl
@@ -124,7 +115,7 @@ any_shown at rows s w t is e = by (way_of at rows s w t e)
         let there : layer_data at rows (Some D.Any) w ≡ Some l = sym (ap (λ c. layer_data at rows (Some c) w) same) ∙ given in
         let made : composed at D.Any l ≡ Some t = sym (ap (λ c. composed at c l) same) ∙ composes in
         let x = then_from any_data (as_any l) t made in
-        ap (shown rows s) (any_value at rows w l x.item there x.there) ∙ same_any x.item t x.made
+        ap (shown rows s) (any_value at rows w l x.item there x.there) ∙ any_is x.item t x.made
 
 any_values_shown : (at : Hamts) (rows : List Row) (s : Slot) (ws : Values) (ts : List Data) → form_of rows s ≡ Some D.Any → represented_values at rows s ws ≡ Some ts → shown_values rows s ws ≡ T.items_of ts
 any_values_shown at rows s V.no_values ts is e = ap T.items_of (same_Some [] ts e)
@@ -338,7 +329,7 @@ module _ (rows others : List Row) (set : Slot → Slot → Bool) (closed : IsClo
       let d = any_form rows (before (levels_of m.form (V.any x) - 1)) m.form x m.holds.1 in
       let is : form_of rows a ≡ Some D.Any = m.is ∙ ap Some d.0 in
       let k = meets rows others set closed a b D.Any s is in
-      let made : x ≡ t = same_any x t (sym (ap (λ o. layered at o (Some (L.any x))) is) ∙ e) in
+      let made : x ≡ t = any_is x t (sym (ap (λ o. layered at o (Some (L.any x))) is) ∙ e) in
       as_any_carried at a b (V.any x) t (k.is ∙ ap Some (with_any k.form k.agree)) tree (subst IsNotNull made d.2) made
 
   pub unit_carried : (at : Hamts) (a b : Slot) (t : Data) → set a b ≡ true → ValueFits rows room before a V.unit → represented at rows a V.unit ≡ Some t → Carried rows others at (ValueFits others room after) a b V.unit t

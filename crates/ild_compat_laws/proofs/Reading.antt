@@ -1,9 +1,10 @@
 -- Values of a slot read as values of a compatible one, however deep they nest; and in stores.
-use Rattle.std.proofs.Common.{◌≡◌, ℕ, zero, suc, ◌≤◌, Bool, true, false, cond, not, ◌||◌, List, [], ◌∷◌, ◌++◌, length, Some, None, refl, ap, ◌∙◌}
+use Rattle.std.proofs.Common.{◌≡◌, ℕ, zero, suc, ◌≤◌, Bool, true, false, cond, not, ◌||◌, List, [], ◌∷◌, length, Some, None, refl, ap, ◌∙◌}
 use Rattle.std.specs.List.{AllByRecursion}
 use Rattle.std.specs.Option.{option_map_or}
 use Rattle.std.proofs.lemmas.Bool.{false≢true}
 use Rattle.std.proofs.lemmas.Option.{none-some}
+use Rattle.ild_data.proofs.AllOf.{all_first, all_second, all_append}
 use Rattle.ild_data.specs.Data as T
 use Rattle.ild_data.specs.Data.{Data}
 use Rattle.ild_data.specs.Limits.{longest_block}
@@ -125,24 +126,12 @@ values_read h rows others schema other a b c room v t f e =
 
 -- ---- in stores
 
-all_front : {X : Type 0} (P : X → Type 0) (xs ys : List X) → AllByRecursion P (xs ++ ys) → AllByRecursion P xs
-all_front P [] ys h = tt
-all_front P (x ∷ xs) ys h = (h.0, all_front P xs ys h.1)
-
-all_back : {X : Type 0} (P : X → Type 0) (xs ys : List X) → AllByRecursion P (xs ++ ys) → AllByRecursion P ys
-all_back P [] ys h = h
-all_back P (x ∷ xs) ys h = all_back P xs ys h.1
-
-all_both : {X : Type 0} (P : X → Type 0) (xs ys : List X) → AllByRecursion P xs → AllByRecursion P ys → AllByRecursion P (xs ++ ys)
-all_both P [] ys h k = k
-all_both P (x ∷ xs) ys h k = (h.0, all_both P xs ys h.1 k)
-
 -- what holds of the blocks of a value holds of those of the other: they are among them
 blocks_kept : (P : List ℕ → Type 0) (f : Frame) (h : List ℕ → List ℕ) (rows others : List Row) (m n : TypeNo) (v w : Value) (d : Data)
     → ((x : List ℕ) → IsIn x (nodes h others (plainly n) w) → IsIn x (nodes h rows (plainly m) v)) → AllByRecursion P (blocks_of f h rows m v d) → AllByRecursion P (blocks_of f h others n w d)
 blocks_kept P f h rows others m n v w d within all =
-    let of_nodes : AllByRecursion P (nodes h rows (plainly m) v) = all_front P (nodes h rows (plainly m) v) f.beside all.1 in
-    (all.0, all_both P (nodes h others (plainly n) w) f.beside (all_by P (nodes h others (plainly n) w) (λ x i. all_in P (nodes h rows (plainly m) v) x of_nodes (within x i))) (all_back P (nodes h rows (plainly m) v) f.beside all.1))
+    let of_nodes : AllByRecursion P (nodes h rows (plainly m) v) = all_first P (nodes h rows (plainly m) v) f.beside all.1 in
+    (all.0, all_append P (nodes h others (plainly n) w) f.beside (all_by P (nodes h others (plainly n) w) (λ x i. all_in P (nodes h rows (plainly m) v) x of_nodes (within x i))) (all_second P (nodes h rows (plainly m) v) f.beside all.1))
 
 pub standing_read : StandingAreRead
 standing_read f frame block h rows others schema other m n c id v s =

@@ -6,6 +6,10 @@ pub mod Spelling
 pub mod Sizes
 pub mod Shapes
 pub mod Heads
+pub mod HeadSizes
+pub mod AllOf
+pub mod Gets
+pub mod Options
 pub mod Apart
 pub mod Regroup
 pub mod Varints

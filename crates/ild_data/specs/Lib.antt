@@ -6,6 +6,7 @@ pub mod Key
 pub mod Varint
 pub mod Bytes
 pub mod Cid
+pub mod Among
 pub mod Base32
 pub mod CidText
 pub mod CidRead

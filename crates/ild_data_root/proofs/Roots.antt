@@ -1,17 +1,13 @@
 -- The ids that the texts of roots give.
 use Rattle.std.proofs.Common.{◌≡◌, ◌⊎◌, ◌↔◌, ℕ, List, length, Bool, true, false, ◌==◌, ◌&&◌, if◌then◌else◌, eq-eqb, Option, Some, None, IsSome, IfSome, option_map, Result, Ok, Err, refl, sym, ap, ◌∙◌, inl, inr}
-use Rattle.std.proofs.lemmas.Bool.{eqb-true, and_from}
+use Rattle.std.proofs.lemmas.Bool.{eqb-true, and_from, and_parts}
 use Rattle.ild_data.specs.CidRead.{CidParts, cid_parts}
 use Rattle.ild_data.specs.CidTextRead.{read_cid_text}
 use Rattle.ild_data.specs.declared.fault.TextErr.{TextErr}
 use Rattle.ild_data.specs.declared.fault.TextErr.TheVariants as E
 use Rattle.ild_data.specs.declared.id.BlockId.{BlockId}
 use Rattle.std.specs.declared.alloc.AllocError.{AllocError}
-use Rattle.ild_data_root.specs.Root.{block_in, root_in, root_of_text, no_root, AsksRoot}
-
-both_true : (a b : Bool) → (a && b) ≡ true → (a ≡ true) × (b ≡ true)
-both_true true b e = (refl, e)
-both_true false b e = absurd cc
+use Rattle.ild_data_root.specs.Root.{block_in, root_in, no_root, AsksRoot}
 
 abbrev is_block : CidParts → Bool
 is_block parts = parts.codec == 0x71 && (parts.hash == 0x12 && length parts.digest == 32)
@@ -29,8 +25,8 @@ told parts None is same = by (is_block parts) refl
     by : (t : Bool) → is_block parts ≡ t → None ≡ block_in parts
     by false e = sym (by_test parts false e)
     by true e =
-        let p = both_true (parts.codec == 0x71) (parts.hash == 0x12 && length parts.digest == 32) e in
-        let q = both_true (parts.hash == 0x12) (length parts.digest == 32) p.1 in
+        let p = and_parts (parts.codec == 0x71) (parts.hash == 0x12 && length parts.digest == 32) e in
+        let q = and_parts (parts.hash == 0x12) (length parts.digest == 32) p.1 in
         let none : false ≡ true = is.1 (eqb-true parts.codec 0x71 p.0, eqb-true parts.hash 0x12 q.0, eqb-true (length parts.digest) 32 q.1) in
         absurd (let e : false ≡ true = none in cc)
 

@@ -1,6 +1,6 @@
 -- How many blocks stand in an order.
-use Rattle.std.proofs.Common.{◌≡◌, ◌≢◌, inl, inr, ⊎_elim, ℕ, suc, ◌≤◌, List, [], ◌∷◌, ◌++◌, length, Bool, true, false, ◌||◌, nat_eq, Some, refl, sym, ap, ◌∙◌, arith}
-use Rattle.std.proofs.lemmas.Bool.{eq-eqb}
+use Rattle.std.proofs.Common.{◌≡◌, ◌≢◌, inl, inr, ⊎_elim, ℕ, suc, ◌≤◌, List, [], ◌∷◌, ◌++◌, length, true, false, nat_eq, refl, sym, ap, ◌∙◌, arith}
+use Rattle.std.proofs.lemmas.Bool.{eq-eqb, or_parts}
 use Rattle.std.proofs.lemmas.Option.{same_Some}
 use Rattle.ild_data.specs.Spell.{id_of}
 use Rattle.ild_edges.specs.Among.{IsIn}
@@ -21,11 +21,6 @@ without b (c ∷ blocks) (inr more) =
     let w : Without b blocks = without b blocks more in
     record { rest = c ∷ w.rest; one_less = ap suc w.one_less; others = λ d is apart. ⊎_elim (λ e. inl e) (λ there. inr (w.others d there apart)) is }
 
-or_neither : (a b : Bool) → (a || b) ≡ false → (a ≡ false) × (b ≡ false)
-or_neither false false e = (refl, refl)
-or_neither true b e = absurd (let bad : true ≡ false = e in cc)
-or_neither false true e = absurd (let bad : true ≡ false = e in cc)
-
 -- blocks of the batch's own with one text have one number
 same_number : (own : List (List ℕ)) (i j : ℕ) → IsOwn own i → IsOwn own j → own_block own i ≡ own_block own j → i ≡ j
 same_number own i j first last same = same_Some i j (sym first.found ∙ ap (λ (b : List ℕ). index_at own (id_of b)) same ∙ last.found)
@@ -37,7 +32,7 @@ fits_in own children spots before [] blocks inside follows each = omega arith
 fits_in own children spots before (i ∷ order) blocks inside follows each =
     let w : Without (own_block own i) blocks = without (own_block own i) blocks (each i follows.1.kind follows.1.reached follows.0) in
     let more : length order ≤ length w.rest = fits_in own children spots (before ++ i ∷ []) order w.rest inside follows.2 (λ j k reached free.
-    let both : (is_in j before ≡ false) × (nat_eq i j ≡ false) = or_neither (is_in j before) (nat_eq i j) (sym (is_in-more j before i) ∙ free) in
+    let both : (is_in j before ≡ false) × (nat_eq i j ≡ false) = or_parts (is_in j before) (nat_eq i j) (sym (is_in-more j before i) ∙ free) in
     w.others (own_block own j) (each j k reached both.0) (λ same.
     let one : i ≡ j = same_number own i j (inside (i, follows.1.kind) follows.1.reached) (inside (j, k) reached) (sym same) in
     absurd (let bad : true ≡ false = sym (eq-eqb i j one) ∙ both.1 in cc))) in

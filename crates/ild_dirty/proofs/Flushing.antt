@@ -1,10 +1,10 @@
 -- What puts in a plan's order leave of a tree.
-use Rattle.std.proofs.Common.{◌≡◌, ◌≢◌, ◌⊎◌, inl, inr, ⊎_elim, ℕ, zero, suc, Bool, true, false, ◌&&◌, ◌||◌, nat_eq, cond, List, [], ◌∷◌, ◌++◌, length, ◌≤◌, map, take, Option, Some, None, Result, Ok, Err, refl, sym, ap, ◌∙◌, subst, arith}
+use Rattle.std.proofs.Common.{◌≡◌, ◌≢◌, ◌⊎◌, inl, inr, ⊎_elim, ℕ, zero, suc, Bool, true, false, ◌||◌, nat_eq, cond, List, [], ◌∷◌, ◌++◌, length, ◌≤◌, map, take, Option, Some, None, Result, Ok, Err, refl, sym, ap, ◌∙◌, subst, arith}
 use Rattle.std.specs.Prelude.{Contains, IsSome}
 use Rattle.std.specs.List.{AllByRecursion}
 use Rattle.std.specs.Option.{option_map_or}
 use Rattle.std.proofs.lemmas.Option.{none-some}
-use Rattle.std.proofs.lemmas.Bool.{eqb-true}
+use Rattle.std.proofs.lemmas.Bool.{eqb-true, and_from, and_parts}
 use Rattle.std.proofs.lemmas.List.{map-append, length-map}
 use Rattle.std.specs.Cmp.Lexicographic.{nat_list_eq_equiv}
 use Rattle.ild_data.specs.Key.{same_text}
@@ -70,11 +70,6 @@ done_by : (order : List ℕ) (o : Option ℕ) → ((j : ℕ) → o ≡ Some j �
 done_by order None each = refl
 done_by order (Some j) each = each j refl
 
-and_both : (a b : Bool) → a ≡ true → b ≡ true → (a && b) ≡ true
-and_both true true p q = refl
-and_both false b p q = absurd (let bad : false ≡ true = p in cc)
-and_both true false p q = absurd (let bad : false ≡ true = q in cc)
-
 mutual
   in_order : (own : List (List ℕ)) (children : ℕ → List ℕ → List (List ℕ × ℕ)) (spots : List (ℕ × ℕ)) (order : List ℕ) → LeadOn own children spots spots → AreStuck own children order spots
       → (t : Place) → IsTree children t → AgreesWith own (blocks_in t) → (i : ℕ) → index_at own (id_of (block_of t)) ≡ Some i → IsIn (i, place_kind t) spots → is_in i order ≡ true
@@ -90,7 +85,7 @@ mutual
   all_in_order own children spots order closed stuck [] ts trees agrees leads = refl
   all_in_order own children spots order closed stuck (c ∷ cs) no_places trees agrees leads = absurd trees
   all_in_order own children spots order closed stuck (c ∷ cs) (beside t ts) trees agrees leads =
-      and_both (is_done own order c) (are_done own order cs)
+      and_from (is_done own order c) (are_done own order cs)
       (done_by order (index_at own c.0) (λ j e. in_order own children spots order closed stuck t trees.2 (agrees_left own (blocks_in t) (blocks_below ts) agrees) j (ap (index_at own) trees.0 ∙ e)
       (subst (λ (k : ℕ). IsIn (j, k) spots) (sym trees.1) (leads (j, c.1) (record { child = c; among = inl refl; found = e; kind = refl })))))
       (all_in_order own children spots order closed stuck cs ts trees.3 (agrees_right own (blocks_in t) (blocks_below ts) agrees) (λ s one. leads s (record { child = one.child; among = inr one.among; found = one.found; kind = one.kind })))
@@ -155,10 +150,6 @@ some_is : (o : Option (List ℕ)) (x : List ℕ) → o ≡ Some x → IsSome o
 some_is None x e = absurd (none-some x e)
 some_is (Some y) x e = refl
 
-and_first : (a b : Bool) → (a && b) ≡ true → (a ≡ true) × (b ≡ true)
-and_first true b e = (refl, e)
-and_first false b e = absurd (let bad : false ≡ true = e in cc)
-
 child_some : (own now : List (List ℕ)) (front : List ℕ) (id : List ℕ) (o : Option ℕ) → index_at own id ≡ o → option_map_or (λ j. is_in j front) o true ≡ true → AreHeld (map (own_block own) front) now
     → (index_at own id ≡ None → IsSome (block_at now id)) → IsSome (block_at now id)
 child_some own now front id None e done held none = none e
@@ -171,7 +162,7 @@ all_some : (own now : List (List ℕ)) (front : List ℕ) (cs : List (List ℕ �
     → AllByRecursion (λ (c : List ℕ × ℕ). IsSome (block_at now c.0)) cs
 all_some own now front [] done held none = tt
 all_some own now front (c ∷ cs) done held none =
-    let both : (is_done own front c ≡ true) × (are_done own front cs ≡ true) = and_first (is_done own front c) (are_done own front cs) done in
+    let both : (is_done own front c ≡ true) × (are_done own front cs ≡ true) = and_parts (is_done own front c) (are_done own front cs) done in
     (child_some own now front c.0 (index_at own c.0) refl both.0 held (none c (inl refl)), all_some own now front cs both.1 held (λ d is. none d (inr is)))
 
 top_carried : (own was : List (List ℕ)) (t : Place) (id : List ℕ) → AreCarried was own (places_in t) → id_of (block_of t) ≡ id → index_at own id ≡ None → block_at was id ≡ Some (block_of t)

@@ -41,10 +41,10 @@ got_both n (x ∷ xs) ys a b = (a.0, got_both n xs ys a.1 b)
 
 -- ---- gets alone
 
-kept_same : (a b : Option (List (List ℕ))) → b ≡ a → BothTold a b Keeps
+pub kept_same : (a b : Option (List (List ℕ))) → b ≡ a → BothTold a b Keeps
 kept_same a b is = subst (λ (x : Option (List (List ℕ))). BothTold a x Keeps) (sym is) (keeps_refl a)
 
-given_same : (a b : Option (List (List ℕ))) → b ≡ a → BothTold a b StaysGiven
+pub given_same : (a b : Option (List (List ℕ))) → b ≡ a → BothTold a b StaysGiven
 given_same a b is = subst (λ (x : Option (List (List ℕ))). BothTold a x StaysGiven) (sym is) (given_refl a)
 
 -- of which it is known that they were
@@ -84,7 +84,7 @@ all_held : (n : Moment) (bs : List (List ℕ)) → AllByRecursion (IsGot n) bs �
 all_held n [] all held is = tt
 all_held n (b ∷ bs) all held is = (got_held n b all.0 held is, all_held n bs all.1 held is)
 
-all_later : (m n : Moment) → OnlyReads m n → (bs : List (List ℕ)) → AllByRecursion (IsGot m) bs → AllByRecursion (IsGot n) bs
+pub all_later : (m n : Moment) → OnlyReads m n → (bs : List (List ℕ)) → AllByRecursion (IsGot m) bs → AllByRecursion (IsGot n) bs
 all_later m n only [] all = tt
 all_later m n only (b ∷ bs) all = (record { before = all.0.before; behind = all.0.behind; get = all.0.get; since = reads_then all.0.behind m n all.0.since only }, all_later m n only bs all.1)
 

@@ -1,6 +1,7 @@
 -- What a store holds at a moment, and what came to it between two.
 use Rattle.std.specs.Prelude.{◌≡◌, ◌≢◌, ◌⊎◌, ℕ, List, [], ◌∷◌, Option, Some, Ok, IsSome, Contains}
 use Rattle.std.specs.List.{AllByRecursion}
+use Rattle.ild_data.specs.Among.{AreUnderIds}
 use Rattle.ild_data.specs.Bytes.{AreBytes}
 use Rattle.ild_data.specs.Spell.{id_of}
 use Rattle.ild_edges.specs.Collide.{Collide}
@@ -9,7 +10,7 @@ use Rattle.ild_edges.specs.Told.{IfTold, BothTold}
 
 -- each of these blocks is held under its id
 abbrev pub AreHeld : List (List ℕ) → List (List ℕ) → Type 0
-AreHeld blocks held = AllByRecursion (λ b. block_at held (id_of b) ≡ Some b) blocks
+AreHeld blocks held = AreUnderIds (block_at held) blocks
 
 -- a block under an id: the one that is held, where the store tells what it holds
 pub record IsUnder (told : Option (List (List ℕ))) (id block : List ℕ) : Type 0 where

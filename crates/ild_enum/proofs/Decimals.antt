@@ -4,14 +4,14 @@ use Rattle.std.specs.Prelude.{ℤ, pos, negsuc, decimal, ◌&&◌, ◌==◌, not
 use Rattle.std.specs.Fmt.{signed_decimal}
 use Rattle.std.specs.List.{list_all}
 use Rattle.std.specs.Str.{all_ascii_digits}
-use Rattle.std.proofs.lemmas.Bool.{eqb-true, eqb-false, eq-eqb, ltb-true, ltb-false}
+use Rattle.std.proofs.lemmas.Bool.{eqb-true, eqb-false, eq-eqb, ltb-true, ltb-false, and_parts}
 use Rattle.std.proofs.lemmas.Option.{same_Some, none-some}
 use Rattle.std.proofs.lemmas.Fmt.{decimal-digits_value, decimal_digit, decimal_injective, first_decimal}
 use Rattle.std.proofs.lemmas.Str.Parse.{IsNumeralModel, numerals_by_fold}
 use Rattle.std.proofs.lemmas.Int.{ints}
 use Rattle.ild_data.specs.Integer.{IsInt}
 use Rattle.ild_schema.specs.Decimal.{is_digit, digits_value, are_digits, natural_of, below_zero, from_zero, decimal_of}
-use Rattle.ild_typed.proofs.Basics.{then_from, true_from, both_true}
+use Rattle.ild_typed.proofs.Basics.{then_from, true_from}
 
 own : IsNumeralModel (λ ds. all_ascii_digits ds ≡ true) (digits_value 0)
 own = numerals_by_fold _ (search rules) digits_value (search rules)
@@ -19,7 +19,7 @@ own = numerals_by_fold _ (search rules) digits_value (search rules)
 digits_all : (ds : List ℕ) → list_all is_digit ds ≡ true → all_ascii_digits ds ≡ true
 digits_all [] e = refl
 digits_all (d ∷ ds) e =
-    let x = both_true (is_digit d) (list_all is_digit ds) e in
+    let x = and_parts (is_digit d) (list_all is_digit ds) e in
     ap (λ b. b && all_ascii_digits ds) x.0 ∙ digits_all ds x.1
 
 not_zero : (d : ℕ) → not (d == 48) ≡ true → d ≡ 48 → ⊥
@@ -29,7 +29,7 @@ are_own : (ds : List ℕ) → are_digits ds ≡ true → (all_ascii_digits ds �
 are_own [] e = absurd (cc)
 are_own (d ∷ []) e = (ap (λ b. b && true) e, omega arith, λ same. refl)
 are_own (d ∷ f ∷ ds) e =
-    let x = both_true (not (d == 48)) (list_all is_digit (d ∷ f ∷ ds)) e in
+    let x = and_parts (not (d == 48)) (list_all is_digit (d ∷ f ∷ ds)) e in
     (digits_all (d ∷ f ∷ ds) x.1, omega arith, λ same. absurd (not_zero d x.0 same))
 
 natural_is : (ds : List ℕ) (n : ℕ) → natural_of ds ≡ Some n → n < 2 ^ 64 → ds ≡ decimal n

@@ -1,3 +1,3 @@
 mod Decimals
-mod Members
+pub mod Members
 mod Emptied

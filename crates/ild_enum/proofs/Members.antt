@@ -1,11 +1,12 @@
 -- The member of an enum by its text or its integer.
-use Rattle.std.proofs.Common.{◌≡◌, ℕ, Bool, true, false, cond, List, Option, Some, None, refl, sym, ◌∙◌, ap, subst}
+use Rattle.std.proofs.Common.{◌≡◌, ℕ, Bool, true, false, cond, List, Some, None, refl, sym, ◌∙◌, ap, subst}
 use Rattle.std.specs.Prelude.{ℤ, ◌||◌, not, option_map, option_and_then, slice_get, bytes_eq}
 use Rattle.std.specs.Fmt.{signed_decimal}
 use Rattle.std.specs.List.{AllByRecursion, position_from}
 use Rattle.std.specs.Option.{unwrap_or}
 use Rattle.std.specs.Cmp.Lexicographic.{same_text as text_same}
 use Rattle.std.proofs.lemmas.Option.{same_Some, none-some}
+use Rattle.ild_typed.proofs.CleanTypes.{value_is}
 use Rattle.ild_data.specs.Data as T
 use Rattle.ild_data.specs.Data.{Data}
 use Rattle.ild_data.specs.Integer.{IsInt}
@@ -30,16 +31,11 @@ use Rattle.ild_typed.specs.Strings.{text_in}
 use Rattle.ild_typed.specs.Why as W
 use Rattle.ild_typed.proofs.Basics.{From, then_from}
 use Rattle.ild_typed.proofs.CleanFields.{int_self}
-use Rattle.ild_typed.proofs.Entries.{same_text_self}
+use Rattle.ild_typed.proofs.Entries.{same_text_self, only_text_data}
 use Rattle.ild_typed.proofs.Structs.{int_same}
 use Rattle.ild_typed.proofs.Utf8Texts.{decimal_is_int}
 use Rattle.ild_enum.proofs.Decimals.{decimal_is, decimals_apart}
 use Rattle.ild_layer_piece.proofs.Searching.{text_agrees, all_of, all_then, same_bool, ended, first_at, none_ended}
-
-value_is : (o : Option Data) (t : Data) → is_value o t ≡ true → o ≡ Some t
-value_is (Some (T.text a)) (T.text b) e = ap (λ s. Some (T.text s)) (text_same a b (sym e))
-value_is (Some (T.integer a)) (T.integer b) e = ap (λ n. Some (T.integer n)) (int_same a b e)
-value_is o t e = absurd (cc)
 
 -- a search by texts finds the members with a value
 abbrev pub Agrees : EnumForm → List EnumMember → List ℕ → Data → Type 0
@@ -63,10 +59,6 @@ unagreed e text t kind all none =
     (ap not (none_ended (λ m. bytes_eq text (member_text m)) (λ m. is_value (enum_form e.form m) t) 0 e.members all none))
 
 -- ---- texts
-
-pub text_is : (t : Data) (s : List ℕ) → text_in t ≡ Some s → t ≡ T.text s
-text_is (T.text a) s e = ap T.text (same_Some a s e)
-text_is t s e = absurd (none-some s e)
 
 pub texts_agree : (form : EnumForm) (ms : List EnumMember) (s : List ℕ) → form ≡ F.Text → Agrees form ms s (T.text s)
 texts_agree form ms s is =
@@ -106,12 +98,12 @@ kind_is form t d is same = ap (λ x. same_kind (enum_kind form) (kind_word_of x)
 pub text_found : (e : EnumDef) (t : Data) (s : List ℕ) (n : ℕ) → e.form ≡ F.Text → Some s ≡ text_in t
     → position_from (λ m. bytes_eq s (member_text m)) 0 e.members ≡ Some n → option_and_then (enum_form e.form) (slice_get e.members n) ≡ Some t
 text_found e t s n form is place =
-    agreed e.form e.members s t n (subst (Agrees e.form e.members s) (sym (text_is t s (sym is))) (texts_agree e.form e.members s form)) place
+    agreed e.form e.members s t n (subst (Agrees e.form e.members s) (sym (only_text_data t s (sym is))) (texts_agree e.form e.members s form)) place
 
 pub text_missed : (e : EnumDef) (t : Data) (s : List ℕ) → e.form ≡ F.Text → Some s ≡ text_in t
     → position_from (λ m. bytes_eq s (member_text m)) 0 e.members ≡ None → why_of (D.Enum e) t ≡ Some W.Member
 text_missed e t s form is none =
-    let own : t ≡ T.text s = text_is t s (sym is) in
+    let own : t ≡ T.text s = only_text_data t s (sym is) in
     unagreed e s t (kind_is e.form t (T.text s) own (ap (λ f. same_kind (enum_kind f) K.Text) form))
     (subst (Agrees e.form e.members s) (sym own) (texts_agree e.form e.members s form)) none
 

@@ -1,15 +1,11 @@
 -- Texts of ASCII, by a test.
-use Rattle.std.proofs.Common.{◌≡◌, ℕ, zero, suc, ◌<◌, List, [], ◌∷◌, Bool, true, false, refl, arith}
-use Rattle.std.specs.Prelude.{IsAscii, nat_lt, ◌&&◌}
+use Rattle.std.proofs.Common.{◌≡◌, ℕ, zero, suc, List, [], ◌∷◌, true, arith}
+use Rattle.std.specs.Prelude.{IsAscii, nat_lt}
 use Rattle.std.specs.List.{list_all}
 use Rattle.std.proofs.lemmas.Bool.Decides.{nat_tests}
-
-both : (a b : Bool) → (a && b) ≡ true → (a ≡ true) × (b ≡ true)
-both true true e = (refl, refl)
-both true false e = absurd cc
-both false b e = absurd cc
+use Rattle.std.proofs.lemmas.Bool.{and_parts}
 
 pub ascii : (bs : List ℕ) → list_all (λ b. nat_lt b 128) bs ≡ true → IsAscii bs
 ascii [] all i = omega arith
-ascii (b ∷ bs) all zero = let e = both (nat_lt b 128) (list_all (λ b. nat_lt b 128) bs) all in grind (arith, nat_tests, e)
-ascii (b ∷ bs) all (suc i) = ascii bs (both (nat_lt b 128) (list_all (λ b. nat_lt b 128) bs) all).1 i
+ascii (b ∷ bs) all zero = let e = and_parts (nat_lt b 128) (list_all (λ b. nat_lt b 128) bs) all in grind (arith, nat_tests, e)
+ascii (b ∷ bs) all (suc i) = ascii bs (and_parts (nat_lt b 128) (list_all (λ b. nat_lt b 128) bs) all).1 i

@@ -1,7 +1,8 @@
 -- A map of the generator as a value of its type: it fits, and is judged by its trie and by the length of its blocks alone.
-use Rattle.std.proofs.Common.{◌≡◌, ℕ, ℤ, List, [], ◌∷◌, map, Bool, true, false, Option, Some, None, inl, refl, sym, ap, ◌∙◌, subst, arith}
-use Rattle.std.specs.Prelude.{IsUtf8, not, ◌||◌, if◌then◌else◌}
+use Rattle.std.proofs.Common.{◌≡◌, ℕ, List, [], ◌∷◌, map, Bool, true, false, Option, Some, None, inl, refl, sym, subst, arith}
+use Rattle.std.specs.Prelude.{IsUtf8, not, if◌then◌else◌}
 use Rattle.std.specs.List.{AllByRecursion}
+use Rattle.ild_schema.proofs.Parts.{pairs_list-pairs_of}
 use Rattle.ild_data.specs.Data as T
 use Rattle.ild_data.specs.Integer.{IsInt}
 use Rattle.ild_data.specs.Key.{IsBelow, Rises}
@@ -16,10 +17,8 @@ use Rattle.ild_schema.specs.Value.{pairs_of, pairs_list}
 use Rattle.ild_schema.specs.declared.def.MapForm.TheVariants as MF
 use Rattle.ild_schema.specs.declared.def.TypeDef.{TypeDef}
 use Rattle.ild_schema.specs.declared.number.Slot.{Slot}
-use Rattle.ild_script.specs.declared.reply.No.{No}
 use Rattle.ild_script.specs.declared.reply.No.TheVariants as N
 use Rattle.ild_script_meaning.specs.PlainMap.{int_entry, as_value, IsPlain}
-use Rattle.ild_typed.proofs.Lists.{pairs_list-pairs_of}
 use Rattle.ild_typed.specs.EachLayer.{some_pair}
 use Rattle.ild_typed.specs.Fits.{FitsPast, Fits}
 use Rattle.ild_typed.specs.Judged.{has_hole, breaks_delimiter, exhausts, is_hole, breaks}

@@ -1,5 +1,5 @@
 -- The steps of the generator as edits of the value of its type.
-use Rattle.std.proofs.Common.{◌≡◌, ℕ, ℤ, pos, ◌+◌, ◌-◌, ◌%◌, ◌/◌, ◌^◌, ◌<◌, ◌≤◌, zero, suc, List, [], ◌∷◌, ◌++◌, map, Bool, true, false, Option, Some, None, Ok, Err, Result, refl, sym, ap, ◌∙◌, subst, arith, le→leb}
+use Rattle.std.proofs.Common.{◌≡◌, ℕ, ℤ, pos, ◌+◌, ◌-◌, ◌%◌, ◌/◌, ◌^◌, ◌<◌, zero, suc, List, [], ◌∷◌, map, Bool, true, false, Option, Some, None, Ok, Err, Result, refl, ap, ◌∙◌, arith, le→leb}
 use Rattle.std.specs.Prelude.{◌||◌, IsUtf8, codes, decimal, is_some, option_map, if◌then◌else◌}
 use Rattle.std.specs.List.{AllByRecursion}
 use Rattle.std.specs.Ordering.{match_ordering}
@@ -7,14 +7,15 @@ use Rattle.std.specs.declared.cmp.Ordering.{Ordering}
 use Rattle.std.specs.declared.cmp.Ordering.TheVariants.{Less, Equal, Greater}
 use Rattle.std.proofs.lemmas.Fmt.{IsAscii-decimal}
 use Rattle.std.proofs.lemmas.Str.{IsUtf8-append, IsUtf8-from_ascii}
+use Rattle.std.proofs.lemmas.Bool.{or_right}
+use Rattle.ild_schema.proofs.Parts.{pairs_list-pairs_of}
 use Rattle.ild_data.proofs.Rising.{rises_put, rises_without}
 use Rattle.ild_data.specs.Data as T
-use Rattle.ild_data.specs.Data.{Data}
 use Rattle.ild_data.specs.Integer.{IsInt}
 use Rattle.ild_data.specs.Key.{key_cmp, same_text, put, value_at, without}
 use Rattle.ild_data.specs.Spell.{id_of}
-use Rattle.ild_path_edits.specs.Edit.{Edit, set_at, del_at, line_change, read_or, meant_or, unless_kept}
-use Rattle.ild_path_edits.specs.Judged.{Tests, AreTests, judged, judged_result, unless_judged}
+use Rattle.ild_path_edits.specs.Edit.{Edit, set_at, del_at, line_change, unless_kept}
+use Rattle.ild_path_edits.specs.Judged.{Tests, AreTests, judged_result, unless_judged}
 use Rattle.ild_path_edits.specs.Table.{unless_there}
 use Rattle.ild_script_meaning.specs.PlainValue.{Value as Entries}
 use Rattle.ild_schema.specs.Prelude.{number}
@@ -26,12 +27,11 @@ use Rattle.ild_script.specs.declared.reply.No.TheVariants as N
 use Rattle.ild_script_meaning.proofs.PlainValues.{entry_there, entry_put, entry_gone}
 use Rattle.ild_script_meaning.specs.Lines.{changed, read_json}
 use Rattle.ild_script_meaning.specs.PlainMap.{int_entry, as_value, IsPlain}
-use Rattle.ild_typed.proofs.Lists.{pairs_list-pairs_of}
 use Rattle.ild_typed.specs.Fits.{FitsPast}
 use Rattle.ild_typed.specs.OfType.{TestsKeys}
 use Rattle.ild_typed.specs.Stands.{bare}
-use Rattle.ild_generator.specs.Generated.{Generated, generated, advanced, obeyed, deleted, set_to, with_set, with_deletion, refusal}
-use Rattle.ild_generator.specs.Laws.{setting_with, step_edit, step_makes, judged_map, StepsAreEdits, EntriesArePlain}
+use Rattle.ild_generator.specs.Generated.{Generated, generated, advanced, deleted, set_to, with_set, with_deletion, refusal}
+use Rattle.ild_generator.specs.Laws.{setting_with, judged_map, StepsAreEdits, EntriesArePlain}
 use Rattle.ild_generator.specs.Numbers.{is_deletion, key_of}
 use Rattle.ild_generator.specs.Schema.{generator_rows, generator_type}
 use Rattle.ild_generator.proofs.Ascii.{ascii}
@@ -115,10 +115,6 @@ key_is : (is_key : ℕ → List ℕ → Bool) → TestsKeys generator_rows is_ke
 unfolding FitsPast
 key_is is_key keys k utf8 = (keys (number 7) k).1 (utf8, (0, (V.text k, (omega arith, utf8), refl)))
 
-or_true : (a b : Bool) → b ≡ true → (a || b) ≡ true
-or_true true b e = refl
-or_true false b e = e
-
 abbrev ok_of : V.Value → Result V.Value No
 ok_of v = Ok v
 
@@ -138,7 +134,7 @@ module _ (t : Tests) (are : AreTests generator_rows t) where
 
   pub set_makes : (k json : List ℕ) (n : ℤ) (es : Entries) → IsUtf8 k → read_json json ≡ Some (T.integer n) → edit_makes es (set_at (k ∷ []) json) ≡ Ok (as_value (put k n es))
   set_makes k json n es utf8 read =
-      rw read (put_by k n es (is_some (value_at k (pairs_list (pairs_of (map int_entry es)))) || t.is_key 7 k) (or_true (is_some (value_at k (pairs_list (pairs_of (map int_entry es))))) (t.is_key 7 k) (key_is t.is_key are.keys k utf8)))
+      rw read (put_by k n es (is_some (value_at k (pairs_list (pairs_of (map int_entry es)))) || t.is_key 7 k) (or_right (is_some (value_at k (pairs_list (pairs_of (map int_entry es))))) (t.is_key 7 k) (key_is t.is_key are.keys k utf8)))
 
   pub del_makes : (k : List ℕ) (es : Entries) → edit_makes es (del_at (k ∷ [])) ≡ (if is_some (value_at k es) then Ok (as_value (without k es)) else Err N.Path)
   del_makes k es = ap (λ o. unless_kept (V.map (pairs_of (without k (pairs_list (pairs_of (map int_entry es)))))) (unless_there o)) (there k es) ∙ gone_by k es (value_at k es)

@@ -5,6 +5,7 @@ use Rattle.std.specs.List.{AllByRecursion}
 use Rattle.std.specs.Prelude.{not}
 use Rattle.std.specs.Ordering.{eq_by_cmp}
 use Rattle.std.specs.FinMap.{put}
+use Rattle.ild_data.proofs.AllOf.{all_filter}
 use Rattle.ild_data.specs.declared.hamt_shape.HamtShape.{HamtShape}
 use Rattle.ild_data.specs.ByteOrder.{bytewise, without}
 use Rattle.ild_data.specs.Data.{Data}
@@ -16,7 +17,6 @@ use Rattle.ild_hamt_trie.specs.Way.{way}
 use Rattle.ild_hamt_trie.proofs.Node.{slots-node}
 use Rattle.ild_typed.specs.Nested.{TreeIn}
 use Rattle.ild_typed.proofs.Treed.{EntryIn}
-use Rattle.ild_typed.proofs.TreeNodes.{part_in}
 use Rattle.ild_node.proofs.Placing.{all-put}
 use Rattle.ild_node_slots.specs.Views.{HasSlots}
 use Rattle.ild_node_slots.specs.declared.view.NodeView.{NodeView}
@@ -127,7 +127,7 @@ pub removes-after : (p : HamtShape) (h : List ℕ → List ℕ) (k : List ℕ) (
 removes-after p h k view slots es m n r has is done = by r done
   where
     other : (r : Result (List ℕ) HamtFault) → Rewrites h p k (without k es) m r n → BothTold m.blocks n.blocks (HoldsAfter h p es (without k es) r)
-    other r rewrites = holds-after p h k view slots es (without k es) m n r has is (differs-without k es is.order) (part_in (EntryIn 92) (λ e. not (eq_by_cmp bytewise k e.0)) es) rewrites
+    other r rewrites = holds-after p h k view slots es (without k es) m n r has is (differs-without k es is.order) (all_filter (EntryIn 92) (λ e. not (eq_by_cmp bytewise k e.0)) es) rewrites
 
     by : (r : Result (List ℕ) HamtFault) → Removes h p k es m r n → BothTold m.blocks n.blocks (HoldsAfter h p es (without k es) r)
     by (Ok root) done = other (Ok root) done.1

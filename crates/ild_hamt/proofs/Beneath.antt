@@ -4,6 +4,7 @@ use Rattle.std.specs.Prelude.{reverse}
 use Rattle.std.specs.List.{range_with_len, list_any}
 use Rattle.std.proofs.lemmas.Bool.{eqb-true, or_cases}
 use Rattle.std.proofs.lemmas.List.{reverse-append}
+use Rattle.ild_bulk.proofs.Plans.{beneath_is}
 use Rattle.ild_data.specs.Data.{Data}
 use Rattle.ild_data.specs.declared.hamt_shape.HamtShape.{HamtShape}
 use Rattle.ild_data.specs.Trie.{part, node_of, at_depth}
@@ -36,11 +37,6 @@ among-piece b f i (j ∷ js) member is =
 no-way : (h : List ℕ → List ℕ) (p : HamtShape) (k : List ℕ) (depth : ℕ) (es : List (List ℕ × Data)) (b : List ℕ) → IsIn b (way h p k zero depth es) → IsIn b (nodes_beneath h p zero depth es)
 unfolding way nodes_beneath
 no-way h p k depth es b is = is
-
-beneath_is : (h : List ℕ → List ℕ) (p : HamtShape) (left depth : ℕ) (es : List (List ℕ × Data))
-    → nodes_beneath h p (suc left) depth es ≡ flat_map (λ i. node_and_beneath p.bucket (node_of h p left (depth + 1)) (nodes_beneath h p left (depth + 1)) (part (at_depth h p depth) es i)) (range_with_len 0 (2 ^ p.width))
-unfolding nodes_beneath
-beneath_is h p left depth es = refl
 
 among-next : (b : List ℕ) (c : Bool) (o : Option Data) (xs ys : List (List ℕ)) (fs : List (List ℕ × Data)) → (IsIn b xs → IsIn b ys) → IsIn b (none_or c (λ gs. block_of o ++ xs) fs) → IsIn b (none_or c (λ gs. block_of o ++ ys) fs)
 among-next b true o xs ys fs more is = is

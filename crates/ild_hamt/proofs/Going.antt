@@ -1,7 +1,7 @@
 -- The steps of a descent.
-use Rattle.std.proofs.Common.{◌≡◌, ◌⊎◌, inl, inr, ⊎_elim, ℕ, suc, ◌+◌, ◌≤◌, ◌<◌, nat_le, Bool, true, false, ◌&&◌, is_some, cond, List, [], ◌∷◌, ◌++◌, length, get_or, Option, Some, None, option_map, Result, Ok, Err, refl, sym, ap, ◌∙◌, subst, arith}
+use Rattle.std.proofs.Common.{◌≡◌, ◌⊎◌, inl, inr, ⊎_elim, ℕ, suc, ◌+◌, ◌≤◌, ◌<◌, nat_le, true, false, ◌&&◌, is_some, cond, List, [], ◌∷◌, ◌++◌, length, get_or, Option, Some, None, option_map, Result, Ok, Err, refl, sym, ap, ◌∙◌, subst, arith}
 use Rattle.std.proofs.lemmas.List.{append-nil, length-append}
-use Rattle.std.proofs.lemmas.Bool.{le-leb, leb-true, cases_lt, false≢true}
+use Rattle.std.proofs.lemmas.Bool.{le-leb, leb-true, cases_lt, false≢true, and_parts}
 use Rattle.ild_data.specs.ByteOrder.{without}
 use Rattle.ild_data.specs.Data.{Data}
 use Rattle.ild_data.specs.Spell.{spell, id_of}
@@ -40,7 +40,7 @@ use Rattle.ild_hamt.proofs.Leading.{leads-more, leads-end, leads-node, held-more
 
 -- ---- where the trie is held
 
-told : {A : Type 0} (o : Option A) (a : A) (P : A → Type 0) → o ≡ Some a → IfTold o P → P a
+pub told : {A : Type 0} (o : Option A) (a : A) (P : A → Type 0) → o ≡ Some a → IfTold o P → P a
 told None a P is t = absurd cc
 told (Some b) a P is t = let same : b ≡ a = cc in subst P same t
 
@@ -346,10 +346,6 @@ last-of bs cs b is = (length bs, omega (arith, ap length is, length-append bs (b
     get-last [] b = refl
     get-last (c ∷ bs) b = get-last bs b
 
-both : (a b : Bool) → (a && b) ≡ true → (a ≡ true) × (b ≡ true)
-both true b is = (refl, is)
-both false b is = absurd cc
-
 some-child : (o : Option BlockId) (s : TrieSlot) → option_map (λ (id : BlockId). id.0) o ≡ child_id s → is_some o ≡ true → is_child s ≡ true
 some-child None s is some = absurd cc
 some-child (Some id) empty is some = absurd cc
@@ -372,7 +368,7 @@ going-beyond h p key hash slots m bs depth id k b n next deeper wide same going 
     let more = going-more p hash slots m bs depth id.0 k b n (bs ++ b ∷ []) deeper (option_map (λ (i : BlockId). i.0) next) going f up lt looks refl in
     let g = subst (λ (x : List ℕ). Going p x slots m (bs ++ b ∷ []) deeper (option_map (λ (i : BlockId). i.0) next) n) same more in
     let end = last-of bs (bs ++ b ∷ []) b refl in
-    let parts = both (is_some next) (nat_le (trie_levels p) (deeper + 1)) beyond in
+    let parts = and_parts (is_some next) (nat_le (trie_levels p) (deeper + 1)) beyond in
     let le : trie_levels p ≤ deeper + 1 = leb-true (trie_levels p) (deeper + 1) parts.1 in
     descends h p key slots m (bs ++ b ∷ []) g.last (Err (Block id (NoNode Trie))) n wide g.reads
     (inr (

@@ -31,12 +31,12 @@ use Rattle.ild_node_slots.specs.declared.view.NodeSlot.{NodeSlot}
 use Rattle.ild_node_slots.specs.declared.view.NodeSlot.TheVariants as S
 use Rattle.ild_bulk.specs.Children.{Follows}
 use Rattle.ild_bulk.specs.Planned.{PlansSlot, planned, slot_plan}
-use Rattle.ild_bulk.proofs.Childs.{child_of, follows_slot, node-over, plan-follows}
+use Rattle.ild_bulk.proofs.Childs.{child_of, follows_slot, node-over, plan-follows, over-more}
 use Rattle.ild_hamt_climb.specs.Planning.{Rising, IsPlanned, SpellsNode}
 use Rattle.ild_hamt_climb.specs.Seen.{IsReadOf}
 use Rattle.ild_hamt_climb.specs.Way.{Leads, slot_for}
 use Rattle.ild_hamt_climb.proofs.Chain.{slot-chain}
-use Rattle.ild_hamt_climb.proofs.Planning.{child-more, over-more}
+use Rattle.ild_hamt_climb.proofs.Planning.{child-more}
 use Rattle.ild_hamt_climb.proofs.Upward.{put_found, put_few}
 use Rattle.ild_hamt.specs.Edits.{IsTrailAlong, entries_at_end, is_full_at_end}
 use Rattle.ild_hamt.specs.Descending.{Descends, IsTrail, trail_blocks}
@@ -147,7 +147,7 @@ nodes-of : (before bs : List (List ℕ)) → Follows before bs → AllByRecursio
 nodes-of before [] follows = tt
 nodes-of before (b ∷ bs) follows = (record { slots = follows.0.slots; spelled = follows.0.is }, nodes-of (before ++ b ∷ []) bs follows.1)
 
-none-at : (h : List ℕ → List ℕ) (p : HamtShape) (k : List ℕ) (depth : ℕ) (es : List (List ℕ × Data)) → way h p k zero depth es ≡ []
+pub none-at : (h : List ℕ → List ℕ) (p : HamtShape) (k : List ℕ) (depth : ℕ) (es : List (List ℕ × Data)) → way h p k zero depth es ≡ []
 unfolding way
 none-at h p k depth es = refl
 

@@ -5,6 +5,7 @@ use Rattle.std.specs.List.{AllByRecursion, range_with_len}
 use Rattle.std.proofs.lemmas.Bool.{lt-leb, leb-true}
 use Rattle.std.proofs.lemmas.Option.{same_Some}
 use Rattle.sha2.proofs.Facts256.{length-sha256}
+use Rattle.ild_data.proofs.AllOf.{all_filter}
 use Rattle.ild_data.specs.Data.{Data}
 use Rattle.ild_data.specs.ByteOrder.{IsInOrder}
 use Rattle.ild_data.specs.Limits.{longest_block}
@@ -20,7 +21,7 @@ use Rattle.ild_hamt_trie.proofs.Parts.{in_order-part}
 use Rattle.ild_hamt_trie.proofs.Way.{way_is}
 use Rattle.ild_typed.specs.Node.{IsSlot}
 use Rattle.ild_typed.proofs.Treed.{EntryIn}
-use Rattle.ild_typed.proofs.TreeNodes.{part_in, node_of_in}
+use Rattle.ild_typed.proofs.TreeNodes.{node_of_in}
 use Rattle.ild_typed.proofs.Utf8Texts.{id_bytes}
 use Rattle.ild_hamt.specs.inside.Holding.{HoldsWay}
 use Rattle.ild_hamt.proofs.Leading.{slots-many}
@@ -55,7 +56,7 @@ slots-form h p left depth n es slots order all is =
     let at : List ℕ → ℕ = at_depth h p depth in
     each-some (IsSlot p) (λ i. slot_of p.bucket (node_of h p left (depth + 1)) (part at es i)) (range_with_len 0 (2 ^ p.width)) slots is
     (λ i z made. slot-form p (node_of h p left (depth + 1)) (part at es i) z (in_order-part at es i order)
-    (texts-of (part at es i) n (part_in (EntryIn n) (λ e. at e.0 == i) es all)) made)
+    (texts-of (part at es i) n (all_filter (EntryIn n) (λ e. at e.0 == i) es all)) made)
 
 -- a block that is held, and short enough
 abbrev pub IsShortHeld : List (List ℕ) → List ℕ → Type 0
@@ -70,7 +71,7 @@ way-holds p h k held (suc (suc left)) depth es order all blocks =
     let at : List ℕ → ℕ = at_depth h p depth in
     let fs : List (List ℕ × Data) = part at es (at k) in
     let fs_order = in_order-part at es (at k) order in
-    let fs_all = part_in (EntryIn 92) (λ e. at e.0 == at k) es all in
+    let fs_all = all_filter (EntryIn 92) (λ e. at e.0 == at k) es all in
     let next : List (List ℕ × Data) → List (List ℕ) = λ gs. block_of (node_of h p (suc left) (depth + 1) gs) ++ way h p k (suc left) (depth + 1) gs in
     λ node many is.
     let whole : way h p k (suc (suc left)) depth es ≡ spell node ∷ way h p k (suc left) (depth + 1) fs =

@@ -1,9 +1,10 @@
 -- The entries of a trie that is held are such as blocks hold.
-use Rattle.std.proofs.Common.{◌≡◌, ⊎_elim, ℕ, zero, suc, ◌+◌, ◌<◌, ◌^◌, ◌==◌, Bool, true, false, cond, List, [], ◌∷◌, ◌++◌, length, get_or, Some, None, refl, sym, ◌∙◌, subst, arith}
-use Rattle.std.specs.Prelude.{IsUtf8, reverse, ◌||◌}
+use Rattle.std.proofs.Common.{◌≡◌, ⊎_elim, ℕ, zero, suc, ◌+◌, ◌<◌, ◌^◌, ◌==◌, Bool, true, false, cond, List, [], ◌∷◌, length, get_or, Some, None, refl, sym, ◌∙◌, subst, arith}
+use Rattle.std.specs.Prelude.{IsUtf8, reverse}
 use Rattle.std.specs.List.{AllByRecursion}
-use Rattle.std.proofs.lemmas.Bool.{eq-eqb, cases_lt, leb-false}
+use Rattle.std.proofs.lemmas.Bool.{eq-eqb, cases_lt, leb-false, or_parts}
 use Rattle.std.proofs.lemmas.List.{reverse-append}
+use Rattle.ild_data.proofs.AllOf.{all_split}
 use Rattle.ild_data.specs.declared.hamt_shape.HamtShape.{HamtShape}
 use Rattle.ild_data.specs.Data.{Data}
 use Rattle.ild_data.specs.Limits.{IsWithin, longest_block}
@@ -85,25 +86,17 @@ entries-sound p h held (suc left) depth es slots is w form below =
 
 -- ---- blocks that are short and held
 
-neither : (x y : Bool) → (x || y) ≡ false → (x ≡ false) × (y ≡ false)
-neither true y e = absurd cc
-neither false y e = (refl, e)
-
 short-held : (bs now : List (List ℕ)) → any_long bs ≡ false → AreHeld bs now → AllByRecursion (IsShortHeld now) bs
 short-held [] now short held = tt
 short-held (b ∷ bs) now short held =
-    let parts = neither (is_long b) (any_long bs) short in
+    let parts = or_parts (is_long b) (any_long bs) short in
     ((let le = leb-false (suc longest_block) (length b) parts.0 in omega arith, held.0), short-held bs now parts.1 held.1)
-
-all-left : {X : Type 0} (P : X → Type 0) (xs ys : List X) → AllByRecursion P (xs ++ ys) → AllByRecursion P xs × AllByRecursion P ys
-all-left P [] ys all = (tt, all)
-all-left P (x ∷ xs) ys all = let rest = all-left P xs ys all.1 in ((all.0, rest.0), rest.1)
 
 all-turned : {X : Type 0} (P : X → Type 0) (xs : List X) → AllByRecursion P (reverse xs) → AllByRecursion P xs
 all-turned P [] all = tt
 all-turned {X = X} P (x ∷ xs) all =
-    let parts = all-left P (reverse xs) (x ∷ []) (subst (λ (ys : List X). AllByRecursion P ys) (reverse-append (x ∷ []) xs) all) in
+    let parts = all_split P (reverse xs) (x ∷ []) (subst (λ (ys : List X). AllByRecursion P ys) (reverse-append (x ∷ []) xs) all) in
     (parts.1.0, all-turned P xs parts.0)
 
 pub way-short : (ws now : List (List ℕ)) (root : List ℕ) → any_long (root ∷ reverse ws) ≡ false → AreHeld (reverse ws) now → AllByRecursion (IsShortHeld now) ws
-way-short ws now root short held = all-turned (IsShortHeld now) ws (short-held (reverse ws) now (neither (is_long root) (any_long (reverse ws)) short).1 held)
+way-short ws now root short held = all-turned (IsShortHeld now) ws (short-held (reverse ws) now (or_parts (is_long root) (any_long (reverse ws)) short).1 held)

@@ -4,6 +4,7 @@ use Rattle.std.specs.Prelude.{IsSome, is_some, reverse}
 use Rattle.std.specs.List.{AllByRecursion}
 use Rattle.std.proofs.lemmas.Bool.{lt-leb, le-leb, cases_eq, cases_lt}
 use Rattle.std.proofs.lemmas.List.{reverse-append}
+use Rattle.ild_bulk.proofs.Childs.{held_among, over-more}
 use Rattle.ild_data.specs.Data.{Data}
 use Rattle.ild_data.specs.Spell.{spell, id_of}
 use Rattle.ild_data.specs.declared.hamt_shape.HamtShape.{HamtShape}
@@ -23,7 +24,7 @@ use Rattle.ild_bulk.specs.Putting.{StopsAfter}
 use Rattle.ild_bulk_walker.specs.Trees.{HoldsBelow}
 use Rattle.ild_hamt_climb.specs.Planning.{Rising}
 use Rattle.ild_hamt_climb.specs.Rewriting.{DiffersAt}
-use Rattle.ild_hamt_climb.proofs.Planning.{among-last, over-more, rising-append}
+use Rattle.ild_hamt_climb.proofs.Planning.{among-last, rising-append}
 use Rattle.ild_hamt_climb.proofs.Differing.{part-differs, part-others}
 use Rattle.ild_hamt.proofs.Holding.{Had, had-below, part-there}
 use Rattle.ild_hamt.proofs.Leading.{slots-many}
@@ -140,10 +141,6 @@ rising-way was (w ∷ ws) over =
 
 -- ---- in a store
 
-held-among : (bs now : List (List ℕ)) (b : List ℕ) → AreHeld bs now → IsIn b bs → block_at now (id_of b) ≡ Some b
-held-among [] now b held is = absurd is
-held-among (c ∷ bs) now b held is = ⊎_elim (λ here. subst (λ (x : List ℕ). block_at now (id_of x) ≡ Some x) (sym here) held.0) (λ more. held-among bs now b held.1 more) is
-
 still-some : (was now : List (List ℕ)) (id : List ℕ) (o : Option (List ℕ)) → Keeps was now → block_at was id ≡ o → IsSome o → IsSome (block_at now id)
 still-some was now id None keeps is some = absurd cc
 still-some was now id (Some b) keeps is some = ap is_some (keeps id b is)
@@ -151,7 +148,7 @@ still-some was now id (Some b) keeps is some = ap is_some (keeps id b is)
 child-there : (was now before : List (List ℕ)) → Keeps was now → AreHeld before now → (id : List ℕ) → IsSome (block_at was id) ⊎ IsIdAmong before id → IsSome (block_at now id)
 child-there was now before keeps held id there =
     ⊎_elim (λ some. still-some was now id (block_at was id) keeps refl some)
-    (λ among. ap is_some (ap (block_at now) (sym among.named) ∙ held-among before now among.block held among.among)) there
+    (λ among. ap is_some (ap (block_at now) (sym among.named) ∙ held_among before now among.block held among.among)) there
 
 held-push : (bs now : List (List ℕ)) (b : List ℕ) → AreHeld bs now → block_at now (id_of b) ≡ Some b → AreHeld (bs ++ b ∷ []) now
 held-push [] now b held is = (is, tt)

@@ -3,6 +3,7 @@ use Rattle.std.proofs.Common.{◌≡◌, ℕ, zero, suc, ◌≤◌, List, [], �
 use Rattle.std.specs.Prelude.{slice_get}
 use Rattle.std.specs.Borrow.{Bor}
 use Rattle.std.specs.List.{AllByRecursion}
+use Rattle.ild_data.proofs.AllOf.{all_first, all_second}
 use Rattle.ild_data.specs.declared.hamt_shape.HamtShape.{HamtShape}
 use Rattle.ild_data.specs.Data.{Data, depth}
 use Rattle.ild_data.specs.Limits.{IsWithin}
@@ -17,15 +18,15 @@ use Rattle.ild_node_slots.specs.declared.bucket.Bucket.{Bucket}
 use Rattle.ild_node_slots.specs.declared.view.NodeView.{NodeView}
 use Rattle.ild_node_slots.specs.declared.view.NodeSlot.{NodeSlot}
 use Rattle.ild_node_slots.specs.declared.view.NodeSlot.TheVariants as S
-use Rattle.ild_node.proofs.Standing.{all_left, all_right, elements_in, bucket_in}
+use Rattle.ild_node.proofs.Standing.{elements_in, bucket_in}
 use Rattle.ild_hamt_climb.specs.Known.{SomeBucket, SomeSlot}
 use Rattle.ild_hamt_climb.specs.Seen.{IsReadOf}
 use Rattle.ild_hamt_climb.proofs.Shown.{slot-shows}
 
 elements_of-in : (slots : List TrieSlot) (i : ℕ) → AllByRecursion (TreeIn 94) (flat_map elements_of slots) → AllByRecursion (TreeIn 94) (elements_of (get_or slots i empty))
 elements_of-in [] i all = tt
-elements_of-in (s ∷ slots) zero all = all_left (TreeIn 94) (elements_of s) (flat_map elements_of slots) all
-elements_of-in (s ∷ slots) (suc i) all = elements_of-in slots i (all_right (TreeIn 94) (elements_of s) (flat_map elements_of slots) all)
+elements_of-in (s ∷ slots) zero all = all_first (TreeIn 94) (elements_of s) (flat_map elements_of slots) all
+elements_of-in (s ∷ slots) (suc i) all = elements_of-in slots i (all_second (TreeIn 94) (elements_of s) (flat_map elements_of slots) all)
 
 pub shallow-slot : (slots : List TrieSlot) (i : ℕ) (es : List (List ℕ × Data)) → IsWithin (node_data slots) → get_or slots i empty ≡ bucket es → AreShallow es
 shallow-slot slots i es w is = bucket_in es (subst (λ (s : TrieSlot). AllByRecursion (TreeIn 94) (elements_of s)) is (elements_of-in slots i (elements_in slots w))).0

@@ -4,6 +4,7 @@ use Rattle.std.specs.Prelude.{All, IsSome, Result, Ok, Err, IfOk}
 use Rattle.std.specs.List.{AllByRecursion}
 use Rattle.std.proofs.lemmas.List.{length-append}
 use Rattle.std.proofs.lemmas.List.Elements.{All-pop}
+use Rattle.ild_data.proofs.AllOf.{all_push}
 use Rattle.ild_data.specs.declared.hamt_shape.HamtShape.{HamtShape}
 use Rattle.ild_data.specs.Spell.{spell, id_of}
 use Rattle.ild_data.specs.Trie.{TrieSlot, empty, bucket, child, is_child, node_data}
@@ -12,7 +13,7 @@ use Rattle.ild_node.specs.NewSlots.{slot_seen}
 use Rattle.ild_node.specs.Written.{IsNodeBlock}
 use Rattle.ild_node.specs.declared.hold.NewHold.{NewHold}
 use Rattle.ild_node.proofs.Standing.{all-set}
-use Rattle.ild_bulk.specs.Children.{ChildIn, IsIdAmong, IsNodeOver}
+use Rattle.ild_bulk.specs.Children.{ChildIn, IsIdAmong}
 use Rattle.ild_edges.specs.Among.{IsIn}
 use Rattle.ild_hamt_climb.specs.Planning.{HoldsLinksOf, SpellsNode, IsWritten, Rising, IsPlanned, LiftsOver, ClimbsOver}
 use Rattle.ild_bulk_walker.specs.Gives.{IsNodeOf}
@@ -31,9 +32,6 @@ children-more : (P Q : List ℕ → Type 0) (slots : List TrieSlot) → ((id : L
 children-more P Q [] f all = tt
 children-more P Q (s ∷ slots) f all = (child-more P Q s f all.0, children-more P Q slots f all.1)
 
-pub over-more : (P Q : List ℕ → Type 0) (b : List ℕ) → ((id : List ℕ) → P id → Q id) → IsNodeOver P b → IsNodeOver Q b
-over-more P Q b f over = record { slots = over.slots; is = over.is; children = children-more P Q over.slots f over.children }
-
 pub among-last : (b : List ℕ) (bs : List (List ℕ)) → IsIn b (bs ++ b ∷ [])
 among-last b [] = inl refl
 among-last b (c ∷ bs) = inr (among-last b bs)
@@ -42,10 +40,6 @@ no-child : (P : List ℕ → Type 0) (s : TrieSlot) → is_child s ≡ false →
 no-child P empty is = tt
 no-child P (bucket es) is = tt
 no-child P (child id) is = absurd cc
-
-all-push : {X : Type 0} (P : X → Type 0) (xs : List X) (x : X) → AllByRecursion P xs → P x → AllByRecursion P (xs ++ x ∷ [])
-all-push P [] x all is = (is, tt)
-all-push P (y ∷ xs) x all is = (all.0, all-push P xs x all.1 is)
 
 -- the slot that stands at the end where nothing is planned
 pub planned-bare : (held : List (List ℕ)) (s : TrieSlot) (plan : List (List ℕ)) → is_child s ≡ false → plan ≡ [] → IsPlanned held s plan
@@ -67,7 +61,7 @@ ok-bare (Err e) slots s plan bare = tt
 pub lifts-block : (slots : List TrieSlot) (i : ℕ) (s : TrieSlot) (block id : List ℕ) (old new : List (List ℕ)) → block ≡ spell (node_data (set slots i s)) → id ≡ id_of block → new ≡ old ++ block ∷ [] → LiftsOver slots s (child id) old new
 lifts-block slots i s block id old new spells named adds = record {
   few = omega (arith, ap length adds ∙ length-append old (block ∷ []));
-  nodes = λ all. subst (λ (bs : List (List ℕ)). AllByRecursion SpellsNode bs) (sym adds) (all-push SpellsNode old block all (record { slots = set slots i s; spelled = spells }));
+  nodes = λ all. subst (λ (bs : List (List ℕ)). AllByRecursion SpellsNode bs) (sym adds) (all_push SpellsNode old block all (record { slots = set slots i s; spelled = spells }));
   planned = λ held links was.
       subst (λ (bs : List (List ℕ)). IsPlanned held (child id) bs) (sym adds) (record {
         rises = rising-append held [] old (block ∷ []) was.rises (

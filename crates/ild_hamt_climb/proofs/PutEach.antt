@@ -15,6 +15,7 @@ use Rattle.std.specs.FinMap.Entries.{below_all, find-where_key, is_sorted-where_
 use Rattle.std.proofs.lemmas.Bool.{le-leb, lt-leb, eqb-true, eq-eqb, ne_eqb, cases_eq, cases_lt}
 use Rattle.std.proofs.lemmas.List.{take_all}
 use Rattle.std.proofs.lemmas.List.Elements.{filter-append}
+use Rattle.ild_hamt_trie.proofs.Gather.{or_none}
 use Rattle.ild_data.specs.Data.{Data}
 use Rattle.ild_data.specs.ByteOrder.{bytewise, without, IsInOrder}
 use Rattle.ild_data.specs.Trie.{part}
@@ -54,11 +55,6 @@ find-put_each q (e ∷ es) rows order =
         → or_else (find bytewise q es) (cond b (Some e.1) (find bytewise q rows)) ≡ or_else (cond b (Some e.1) (find bytewise q es)) (find bytewise q rows)
     by true is none = ap (λ o. or_else o (Some e.1)) (none (same_key q e.0 is))
     by false is none = refl
-
-or_none : (o : Option Data) → or_else o None ≡ o
-unfolding or_else
-or_none None = refl
-or_none (Some d) = refl
 
 -- among none they are themselves
 pub put_each-none : (es : List (List ℕ × Data)) → IsInOrder es → put_each es [] ≡ es

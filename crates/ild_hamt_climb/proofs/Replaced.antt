@@ -1,7 +1,6 @@
 -- A node of which one element is another.
 use Rattle.std.proofs.Common.{◌≡◌, ℕ, zero, suc, ◌+◌, ◌<◌, ◌≤◌, true, List, [], ◌∷◌, ◌++◌, length, map, take, set, get_or, Option, Some, None, refl, sym, ap, ◌∙◌, subst, arith, flat_map}
 use Rattle.std.specs.Prelude.{IfOk, IfSome, Result, Ok, Err}
-use Rattle.std.specs.List.{AllByRecursion}
 use Rattle.std.specs.Option.{option_map_or}
 use Rattle.std.proofs.lemmas.List.{length-append, length-set}
 use Rattle.ild_data.specs.declared.hamt_shape.HamtShape.{HamtShape}
@@ -16,15 +15,13 @@ use Rattle.ild_cbor.specs.Nodes.{IsRoot, HasData}
 use Rattle.ild_cbor.specs.Span.{item_of}
 use Rattle.ild_cbor.specs.declared.node.Node.{Node}
 use Rattle.ild_typed.specs.Nested.{BlockIn, TreeIn}
-use Rattle.ild_typed.proofs.TreeNodes.{SlotIn, node_in}
-use Rattle.ild_typed.proofs.Treed.{EntryIn}
-use Rattle.ild_typed.proofs.Utf8Texts.{link_fits}
+use Rattle.ild_typed.proofs.TreeNodes.{node_in}
 use Rattle.ild_node.specs.Rows.{AreRows, deepest_value}
 use Rattle.ild_node.specs.Written.{IsNodeBlock, IsSound, bytes_of_bits}
-use Rattle.ild_node.proofs.Nodes.{child-sound, node-block}
+use Rattle.ild_node.proofs.Nodes.{child-sound, node-block, slot_in}
 use Rattle.ild_node.proofs.Standing.{all-set, slots-sound}
 use Rattle.ild_node.proofs.Writing.{map-is}
-use Rattle.ild_node_slots.specs.Form.{AreTexts, bucket_data}
+use Rattle.ild_node_slots.specs.Form.{bucket_data}
 use Rattle.ild_node_slots.specs.Places.{elements_data, elements_before}
 use Rattle.ild_node_slots.specs.Views.{HasSlots}
 use Rattle.ild_node_slots.specs.declared.view.NodeView.{NodeView}
@@ -34,18 +31,9 @@ use Rattle.ild_hamt_climb.specs.inside.Elements.{IsElementAt, SpellsElement}
 
 -- ---- how deep an element nests
 
-entries_fit : (es : List (List ℕ × Data)) → AreTexts es → AllByRecursion (λ e. TreeIn deepest_value e.1) es → AllByRecursion (EntryIn deepest_value) es
-entries_fit [] texts values = tt
-entries_fit (e ∷ es) texts values = ((texts.0, values.0), entries_fit es texts.1 values.1)
-
-slot_fits : (p : HamtShape) (s : TrieSlot) → IsSound p s → SlotIn deepest_value s
-slot_fits p empty sound = tt
-slot_fits p (bucket es) sound = entries_fit es sound.form.3 sound.values
-slot_fits p (child id) sound = link_fits id sound.form.0 sound.form.1
-
 pub element_fits : (p : HamtShape) (s : TrieSlot) (e : Data) → IsSound p s → elements_of s ≡ e ∷ [] → TreeIn deepest e
 element_fits p s e sound is =
-    let whole : TreeIn deepest (list (item (bytes (map_of (s ∷ []))) (item (list (items_of (elements_of s ++ []))) no_items))) = node_in deepest_value (s ∷ []) (slot_fits p s sound, tt) in
+    let whole : TreeIn deepest (list (item (bytes (map_of (s ∷ []))) (item (list (items_of (elements_of s ++ []))) no_items))) = node_in deepest_value (s ∷ []) (slot_in p s sound, tt) in
     let one : TreeIn deepest (list (item (bytes (map_of (s ∷ []))) (item (list (item e no_items)) no_items))) =
     subst (λ (ds : List Data). TreeIn deepest (list (item (bytes (map_of (s ∷ []))) (item (list (items_of (ds ++ []))) no_items)))) is whole in
     let le = one.nested in

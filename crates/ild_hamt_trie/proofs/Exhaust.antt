@@ -24,7 +24,7 @@ all_true : {X : Type 0} (f : X → Bool) (xs : List X) → ((x : X) → f x ≡ 
 all_true f [] is = refl
 all_true f (x ∷ xs) is = rw (is x) (all_true f xs is)
 
-some_first : {Y : Type 0} (o : Option Y) (os : List (Option Y)) → is_some (all_some (o ∷ os)) ≡ (is_some o && is_some (all_some os))
+pub some_first : {Y : Type 0} (o : Option Y) (os : List (Option Y)) → is_some (all_some (o ∷ os)) ≡ (is_some o && is_some (all_some os))
 some_first None os = refl
 some_first (Some y) os = is_some-map (λ ys. y ∷ ys) (all_some os)
 

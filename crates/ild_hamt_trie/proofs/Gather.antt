@@ -22,7 +22,7 @@ not_among at a [] q apart lt = refl
 not_among at a (es ∷ ess) q apart lt =
     find-append q es (flat_map (λ fs. fs) ess) ∙ (λ i. or_else (apart.1 q (omega arith) i) (not_among at (a + 1) ess q apart.2 (omega arith) i))
 
-or_none : (o : Option Data) → or_else o None ≡ o
+pub or_none : (o : Option Data) → or_else o None ≡ o
 unfolding or_else
 or_none None = refl
 or_none (Some x) = refl

@@ -1,5 +1,5 @@
 -- Every shape of a HAMT has levels.
-use Rattle.std.proofs.Common.{◌≡◌, ◌≤◌, ◌<◌, ◌*◌, ◌-◌, ◌/◌, ℕ, suc, arith}
+use Rattle.std.proofs.Common.{◌≡◌, ◌≤◌, ◌-◌, suc, arith}
 use Rattle.std.proofs.lemmas.Nat.{le-div}
 use Rattle.ild_data.specs.declared.hamt_shape.HamtShape.{HamtShape}
 use Rattle.ild_data.specs.TrieShape.{trie_levels}

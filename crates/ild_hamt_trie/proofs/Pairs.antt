@@ -42,7 +42,7 @@ same_either None None f g = refl
 same_either (Some x) b f g = sym (f x refl)
 same_either None (Some y) f g = g y refl
 
-none_from : (o : Option Data) → not (is_some o) ≡ true → o ≡ None
+pub none_from : (o : Option Data) → not (is_some o) ≡ true → o ≡ None
 none_from None e = refl
 none_from (Some x) e = absurd cc
 

@@ -5,6 +5,7 @@ use Rattle.std.proofs.lemmas.Bool.Decides.{nat_tests}
 use Rattle.std.proofs.lemmas.Option.{same_Some}
 use Rattle.std.proofs.lemmas.Fmt.{decimal_digit, decimal_step}
 use Rattle.std.specs.Fmt.{decimal}
+use Rattle.std.proofs.lemmas.Bool.{and_parts}
 use Rattle.ild_heads_lines.specs.Number.{is_digit, number_of}
 use Rattle.ild_heads_lines.specs.Laws.{NumbersAreDecimals}
 
@@ -32,11 +33,6 @@ digit_high b e = grind (arith, nat_tests)
 not_zero : (b : ℕ) → not (b == 48) ≡ true → b ≡ 48 → ⊥
 not_zero b e z = grind (arith, nat_tests)
 
-both : (a b : Bool) → (a && b) ≡ true → (a ≡ true) × (b ≡ true)
-both true true e = (refl, refl)
-both true false e = absurd cc
-both false b e = absurd cc
-
 one_read : (a n : ℕ) → number_of (a ∷ []) ≡ Some n → (n < 1000) × (a ∷ [] ≡ decimal n)
 one_read a n e =
     let c = chosen (is_digit a) (a - 48) n e in
@@ -48,8 +44,8 @@ one_read a n e =
 two_read : (a b n : ℕ) → number_of (a ∷ b ∷ []) ≡ Some n → (n < 1000) × (a ∷ b ∷ [] ≡ decimal n)
 two_read a b n e =
     let c = chosen (not (a == 48) && (is_digit a && is_digit b)) ((a - 48) * 10 + (b - 48)) n e in
-    let p = both (not (a == 48)) (is_digit a && is_digit b) c.0 in
-    let q = both (is_digit a) (is_digit b) p.1 in
+    let p = and_parts (not (a == 48)) (is_digit a && is_digit b) c.0 in
+    let q = and_parts (is_digit a) (is_digit b) p.1 in
     let zero = not_zero a p.0 in
     let la = digit_low a q.0 in
     let ha = digit_high a q.0 in
@@ -63,9 +59,9 @@ two_read a b n e =
 three_read : (a b c n : ℕ) → number_of (a ∷ b ∷ c ∷ []) ≡ Some n → (n < 1000) × (a ∷ b ∷ c ∷ [] ≡ decimal n)
 three_read a b c n e =
     let t = chosen (not (a == 48) && (is_digit a && (is_digit b && is_digit c))) ((a - 48) * 100 + (b - 48) * 10 + (c - 48)) n e in
-    let p = both (not (a == 48)) (is_digit a && (is_digit b && is_digit c)) t.0 in
-    let q = both (is_digit a) (is_digit b && is_digit c) p.1 in
-    let r = both (is_digit b) (is_digit c) q.1 in
+    let p = and_parts (not (a == 48)) (is_digit a && (is_digit b && is_digit c)) t.0 in
+    let q = and_parts (is_digit a) (is_digit b && is_digit c) p.1 in
+    let r = and_parts (is_digit b) (is_digit c) q.1 in
     let zero = not_zero a p.0 in
     let la = digit_low a q.0 in
     let ha = digit_high a q.0 in

@@ -8,13 +8,10 @@ use Rattle.ild_data.specs.Data as D
 use Rattle.ild_data.specs.Data.{Data, Items, Members, items_list, members_list}
 use Rattle.ild_data.specs.Spell.{head, spell, spell_items, spell_members}
 use Rattle.ild_data.specs.Tree.{AreEntries, AreTrees, IsTree}
-use Rattle.ild_typed.proofs.Utf8Texts.{bytes_append, utf8_bytes}
+use Rattle.ild_typed.proofs.Utf8Texts.{bytes_append, utf8_bytes, be_bytes}
 
 two_bytes : (n : ℕ) → AreBytes (to_be_bytes w16 n)
 two_bytes n = (omega arith, (omega arith, tt))
-
-four_bytes : (n : ℕ) → AreBytes (to_be_bytes w32 n)
-four_bytes n = (omega arith, (omega arith, (omega arith, (omega arith, tt))))
 
 eight_bytes : (n : ℕ) → AreBytes (to_be_bytes w64 n)
 eight_bytes n = (omega arith, (omega arith, (omega arith, (omega arith, (omega arith, (omega arith, (omega arith, (omega arith, tt))))))))
@@ -29,7 +26,7 @@ head_bytes major n small = by (nat_lt n 24) (nat_lt n (2 ^ 8)) (nat_lt n (2 ^ 16
   by true b c d e f = let h = below 24 e in (omega (arith, h, small), tt)
   by false true c d e f = let h = below (2 ^ 8) f in (omega (arith, small), (omega (arith, h), tt))
   by false false true d e f = (omega (arith, small), two_bytes n)
-  by false false false true e f = (omega (arith, small), four_bytes n)
+  by false false false true e f = (omega (arith, small), be_bytes n)
   by false false false false e f = (omega (arith, small), eight_bytes n)
 
 string_bytes : (major : ℕ) (s : List ℕ) → major < 8 → AreBytes s → AreBytes (head major (length s) ++ s)

@@ -17,6 +17,7 @@ use Rattle.json.specs.Token.{Token}
 use Rattle.json.specs.Lex.{tokens}
 use Rattle.ild_json.proofs.Texts.{json_read-some}
 use Rattle.std.specs.Result.{result_ok}
+use Rattle.ild_data.proofs.AllOf.{all_push}
 use Rattle.ild_data.specs.Seen.{data_of, pair_of}
 use Rattle.ild_data.specs.declared.tree.Tree.{Tree}
 use Rattle.json.specs.Json as doc
@@ -85,10 +86,6 @@ pub sound : (j : doc.Json) (d : Data) → Means j d → IsSound j
 sound j d m =
     let same : doc_value j ≡ m.value = ap value_or m.is in
     record { is = m.is ∙ ap Some (sym same); read = ap data_read same ∙ m.read ∙ ap Ok (sym (data_same j d m)) }
-
-all_push : {X : Type 0} (P : X → Type 0) (xs : List X) (x : X) → AllByRecursion P xs → P x → AllByRecursion P (xs ++ x ∷ [])
-all_push P [] x all one = (one, tt)
-all_push P (y ∷ ys) x all one = (all.0, all_push P ys x all.1 one)
 
 -- ---- lists
 

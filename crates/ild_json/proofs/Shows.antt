@@ -9,6 +9,7 @@ use Rattle.std.specs.Cmp.Lexicographic.{slice_cmp}
 use Rattle.std.specs.List.{flat_map, list_any, AllByRecursion}
 use Rattle.std.specs.List.Sorted.{IsSortedByKey}
 use Rattle.std.specs.Ordering.{match_ordering, is_lt}
+use Rattle.std.proofs.lemmas.Bool.{or_from, or_right}
 use Rattle.json.specs.Token.{Token, key, begin_array, end_array, begin_object, end_object}
 use Rattle.json.specs.Tree.{members_tokens}
 use Rattle.json.specs.Written.{Written}
@@ -167,10 +168,6 @@ held_more xs old new i p lt is all pushed =
 
 -- ---- maps with the only key `/`
 
-pub neither : (a b : Bool) → a ≡ false → b ≡ false → a || b ≡ false
-neither false b first second = second
-neither true b first second = absurd cc
-
 pub not_first : (a b : Bool) → a || b ≡ false → a ≡ false
 not_first false b none = refl
 not_first true b none = absurd cc
@@ -178,10 +175,6 @@ not_first true b none = absurd cc
 pub not_second : (a b : Bool) → a || b ≡ false → b ≡ false
 not_second false b none = none
 not_second true b none = absurd cc
-
-second_is : (a b : Bool) → b ≡ true → a || b ≡ true
-second_is true b one = refl
-second_is false b one = one
 
 items_by_any : (ds : Items) → items_have_reserved ds ≡ list_any has_reserved (items_list ds)
 items_by_any no_items = refl
@@ -212,7 +205,7 @@ members_any ps ms order =
     members_by_any ms ∙ list_any-IsPermutation entry_reserved (members_list ms) (entries_seen ps) order.same ∙ any_seen (λ (p : Held). pair_of p.now) entry_reserved ps
 
 pub any_more : {X : Type 0} (p : X → Bool) (xs : List X) (i : ℕ) (x : X) → i < length xs → x ≡ get_or xs i x → list_any p (take i xs) ≡ false → p x ≡ false → list_any p (take (i + 1) xs) ≡ false
-any_more p xs i x lt is none one = list_any_more p xs i x lt ∙ neither (list_any p (take i xs)) (p (get_or xs i x)) none (ap p (sym is) ∙ one)
+any_more p xs i x lt is none one = list_any_more p xs i x lt ∙ or_from (list_any p (take i xs)) (p (get_or xs i x)) none (ap p (sym is) ∙ one)
 
 pub items_free : (ts : List Tree) (ds : Items) (i : ℕ) → map data_of ts ≡ items_list ds → length ts ≤ i → list_any tree_reserved (take i ts) ≡ false → items_have_reserved ds ≡ false
 items_free ts ds i seen le none = items_any ts ds seen ∙ ap (list_any tree_reserved) (sym (take_all i ts le)) ∙ none
@@ -222,9 +215,9 @@ item_reserved ts ds i t seen lt is one = items_any ts ds seen ∙ list_any_at tr
 
 pub members_free : (ps : List Held) (ms : Members) (i : ℕ) → AreBytewise ms (entries_seen ps) → length ps ≤ i → list_any held_reserved (take i ps) ≡ false → is_slash_alone ms ≡ false → is_slash_alone ms || members_have_reserved ms ≡ false
 members_free ps ms i order le none apart =
-    neither (is_slash_alone ms) (members_have_reserved ms) apart (members_any ps ms order ∙ ap (list_any held_reserved) (sym (take_all i ps le)) ∙ none)
+    or_from (is_slash_alone ms) (members_have_reserved ms) apart (members_any ps ms order ∙ ap (list_any held_reserved) (sym (take_all i ps le)) ∙ none)
 
 pub member_reserved : (ps : List Held) (ms : Members) (i : ℕ) (p : Held) → AreBytewise ms (entries_seen ps) → i < length ps → p ≡ get_or ps i p → has_reserved (data_of p.now.1) ≡ true
     → is_slash_alone ms || members_have_reserved ms ≡ true
 member_reserved ps ms i p order lt is one =
-    second_is (is_slash_alone ms) (members_have_reserved ms) (members_any ps ms order ∙ list_any_at held_reserved ps i p lt (ap held_reserved (sym is) ∙ one))
+    or_right (is_slash_alone ms) (members_have_reserved ms) (members_any ps ms order ∙ list_any_at held_reserved ps i p lt (ap held_reserved (sym is) ∙ one))

@@ -4,6 +4,7 @@ use Rattle.std.proofs.lemmas.Str.{IsUtf8-from_is_utf8, is_utf8-from_IsUtf8}
 use Rattle.std.specs.Str.{is_utf8}
 use Rattle.std.specs.Cmp.Lexicographic.{slice_cmp}
 use Rattle.std.specs.Ordering.{match_ordering}
+use Rattle.std.proofs.lemmas.Bool.{or_from}
 use Rattle.serde_json.specs.Data as json
 use Rattle.serde_json.specs.Find.{is_float, of_integer}
 use Rattle.serde_json.specs.Read.{read}
@@ -12,7 +13,7 @@ use Rattle.ild_data.specs.Data.{Data, null, boolean, integer, text, bytes, list,
 use Rattle.ild_json.specs.declared.error.JsonErr.TheVariants as E
 use Rattle.ild_json.specs.Reading.{json_read, value_read, data_read}
 use Rattle.ild_json.specs.Printing.{json_of, items_json, members_json, put_members, has_reserved, json_text}
-use Rattle.ild_json.proofs.Shows.{neither, not_first, not_second}
+use Rattle.ild_json.proofs.Shows.{not_first, not_second}
 
 pub json_read-some : (s : List ℕ) (d : json.Data) → IsUtf8 s → read s ≡ Some d → json_read s ≡ data_read d
 unfolding json_read
@@ -42,12 +43,12 @@ integer_no_float (negsuc n) = refl
 
 put_at : (o : Ordering) (k l : List ℕ) (d e : json.Data) (ms : json.Members) → has_float d ≡ false → has_float e ≡ false → members_have_float ms ≡ false → members_have_float (json.put k d ms) ≡ false
     → members_have_float (match_ordering o (json.member k d (json.member l e ms)) (json.member l d ms) (json.member l e (json.put k d ms))) ≡ false
-put_at Less k l d e ms new old others later = neither (has_float d) (has_float e || members_have_float ms) new (neither (has_float e) (members_have_float ms) old others)
-put_at Equal k l d e ms new old others later = neither (has_float d) (members_have_float ms) new others
-put_at Greater k l d e ms new old others later = neither (has_float e) (members_have_float (json.put k d ms)) old later
+put_at Less k l d e ms new old others later = or_from (has_float d) (has_float e || members_have_float ms) new (or_from (has_float e) (members_have_float ms) old others)
+put_at Equal k l d e ms new old others later = or_from (has_float d) (members_have_float ms) new others
+put_at Greater k l d e ms new old others later = or_from (has_float e) (members_have_float (json.put k d ms)) old later
 
 put_no_float : (k : List ℕ) (d : json.Data) (ms : json.Members) → has_float d ≡ false → members_have_float ms ≡ false → members_have_float (json.put k d ms) ≡ false
-put_no_float k d json.no_members new none = neither (has_float d) false new refl
+put_no_float k d json.no_members new none = or_from (has_float d) false new refl
 put_no_float k d (json.member l e ms) new none =
     let old = not_first (has_float e) (members_have_float ms) none in
     let others = not_second (has_float e) (members_have_float ms) none in
@@ -74,7 +75,7 @@ mutual
 
   items_no_float : (ds : Items) → items_have_float (items_json ds) ≡ false
   items_no_float no_items = refl
-  items_no_float (item d ds) = neither (has_float (json_of d)) (items_have_float (items_json ds)) (no_float d) (items_no_float ds)
+  items_no_float (item d ds) = or_from (has_float (json_of d)) (items_have_float (items_json ds)) (no_float d) (items_no_float ds)
 
   members_no_float : (ms : Members) → HaveNoFloat (members_json ms)
   members_no_float no_members = tt

@@ -20,7 +20,7 @@ or_right false = refl
 pub any_more : {A : Type 0} (p : A → Bool) (xs : List A) (x : A) → list_any p (xs ++ x ∷ []) ≡ (list_any p xs || p x)
 any_more p xs x = list_any-append p xs (x ∷ []) ∙ ap (λ b. list_any p xs || b) (or_none (p x))
 
-turn : (a b f l : Bool) → ((a || b) || (f || l)) ≡ ((a || f) || (b || l))
+pub turn : (a b f l : Bool) → ((a || b) || (f || l)) ≡ ((a || f) || (b || l))
 turn true b f l = refl
 turn false true true l = refl
 turn false true false l = refl

@@ -54,7 +54,7 @@ pub item_end : (s : Items) (ds : T.Items) (t : Items) → ItemsGive s None t →
 item_end s T.no_items t gives left = refl
 item_end s (T.item d ds) t gives left = absurd (gives (T.item d ds) left)
 
-text_is : (d : Data) (k : List ℕ) → Some k ≡ text_found d → d ≡ T.text k
+pub text_is : (d : Data) (k : List ℕ) → Some k ≡ text_found d → d ≡ T.text k
 text_is (T.text s) k e = ap T.text (sym (same_Some k s e))
 text_is d k e = absurd (none-some k (sym e))
 

@@ -1,10 +1,12 @@
 -- Names by the places of their fields: what is found of the places is what is asked of the names.
-use Rattle.std.proofs.Common.{◌≡◌, ℕ, zero, suc, ◌+◌, ◌≤◌, ◌<◌, List, [], ◌∷◌, length, map, get_or, Bool, true, false, cond, ◌||◌, ◌&&◌, not, Option, Some, refl, sym, ◌∙◌, ap, subst, arith}
+use Rattle.std.proofs.Common.{◌≡◌, ℕ, zero, suc, ◌+◌, ◌≤◌, ◌<◌, List, [], ◌∷◌, length, map, get_or, Bool, true, false, cond, ◌||◌, ◌&&◌, not, Option, Some, refl, sym, ◌∙◌, ap, arith}
 use Rattle.std.specs.Prelude.{nat_eq, slice_get, bytes_eq, unwrap_or, option_and_then}
-use Rattle.std.specs.List.{list_any, position_from, AllByRecursion}
+use Rattle.std.specs.List.{list_any, position_from}
 use Rattle.std.specs.Cmp.Lexicographic.{same_text as text_same}
 use Rattle.std.proofs.lemmas.Option.{same_Some, none-some}
-use Rattle.std.proofs.lemmas.Bool.{eq-eqb, eqb-true}
+use Rattle.std.proofs.lemmas.Bool.{eq-eqb, eqb-true, or_parts}
+use Rattle.ild_typed.proofs.CleanFields.{apart_names, needless_apart}
+use Rattle.ild_data.proofs.AllOf.{all_at}
 use Rattle.ild_data.specs.Data.{Data}
 use Rattle.ild_data.specs.Key.{same_text}
 use Rattle.ild_schema.specs.declared.def.Field.{Field}
@@ -17,7 +19,7 @@ use Rattle.ild_schema.specs.Clear.{AreNamesApart}
 use Rattle.ild_typed.specs.Fields.{is_implicit}
 use Rattle.ild_typed.specs.Named.{is_among, has_twice}
 use Rattle.ild_typed.specs.StructWhy.{is_name_of, has_stranger, place_of, is_needless}
-use Rattle.ild_typed.proofs.Cleans.{or_false, never}
+use Rattle.ild_typed.proofs.Cleans.{never}
 use Rattle.ild_typed.proofs.Entries.{same_text_self}
 use Rattle.ild_layer_fields.specs.Notes.{stands_twice, is_strange, implicit_at}
 
@@ -91,11 +93,6 @@ other_field f g k apart is = by (same_text (field_text g) k) refl where
   by true same = absurd (apart (text_same (field_text f) k (sym is) ∙ sym (text_same (field_text g) k (sym same))))
   by false same = refl
 
-pub all_at : {A : Type 0} (P : A → Type 0) (xs : List A) (i : ℕ) (x : A) → AllByRecursion P xs → slice_get xs i ≡ Some x → P x
-all_at P [] i x all at = absurd (none-some x at)
-all_at P (y ∷ xs) zero x all at = subst P (same_Some y x at) all.0
-all_at P (y ∷ xs) (suc i) x all at = all_at P xs i x all.1 at
-
 -- a name is that of the field at its place
 pub name_at : (fs : List Field) (i : ℕ) (f : Field) (k : List ℕ) → AreNamesApart fs → slice_get fs i ≡ Some f → nat_eq i (place_of fs k) ≡ same_text (field_text f) k
 name_at [] i f k apart at = absurd (none-some f at)
@@ -118,11 +115,6 @@ one_name (f ∷ fs) k l known same = by (one_name fs k l) (is_name_of k f) refl 
   by rest true is false at h e = absurd (omega arith)
   by rest false is true at h e = absurd (omega arith)
   by rest false is false at h e = rest h (omega arith)
-
-apart_names : (f : Field) (k : List ℕ) → field_text f ≡ k → (gs : List Field) → AllByRecursion (λ g. field_text f ≡ field_text g → ⊥) gs → AllByRecursion (λ g. is_name_of k g ≡ false) gs
-apart_names f k is [] all = tt
-apart_names f k is (g ∷ gs) all =
-    (other_field f g k all.0 (ap (λ l. same_text l k) is ∙ same_text_self k), apart_names f k is gs all.1)
 
 -- ---- what is found of names
 
@@ -150,14 +142,9 @@ place_again fs k (l ∷ ls) known =
 pub twice_placed : (fs : List Field) (ks : List (List ℕ)) → has_stranger fs ks ≡ false → has_twice ks ≡ stands_twice (map (place_of fs) ks)
 twice_placed fs [] known = refl
 twice_placed fs (k ∷ ks) known =
-    let x = or_false (not (list_any (is_name_of k) fs)) (has_stranger fs ks) known in
+    let x = or_parts (not (list_any (is_name_of k) fs)) (has_stranger fs ks) known in
     ap (λ b. b || has_twice ks) (place_again fs k ks x.0)
     ∙ ap (λ b. list_any (λ m. nat_eq m (place_of fs k)) (map (place_of fs) ks) || b) (twice_placed fs ks x.1)
-
--- whether a value is that for which its field is left out
-needless_apart : (k : List ℕ) (d : Data) (gs : List Field) → AllByRecursion (λ g. is_name_of k g ≡ false) gs → is_needless gs (k, d) ≡ false
-needless_apart k d [] all = refl
-needless_apart k d (g ∷ gs) all = ap (λ b. (b && is_implicit g.implicit d) || is_needless gs (k, d)) all.0 ∙ needless_apart k d gs all.1
 
 pub needless_placed : (fs : List Field) (k : List ℕ) (d : Data) → AreNamesApart fs → is_needless fs (k, d) ≡ implicit_at fs (place_of fs k) d
 needless_placed [] k d apart = refl

@@ -1,7 +1,9 @@
 -- Entries of which a kind tells that their values are those of fields, one after another.
-use Rattle.std.proofs.Common.{◌≡◌, ℕ, List, [], ◌∷◌, ◌++◌, append_assoc, Bool, true, false, ◌&&◌, None, Some, refl, sym, ◌∙◌, ap, subst}
+use Rattle.std.proofs.Common.{◌≡◌, ℕ, List, [], ◌∷◌, ◌++◌, append_assoc, Bool, true, ◌&&◌, None, Some, sym, ◌∙◌, ap, subst}
 use Rattle.std.specs.Borrow.{Bor}
 use Rattle.std.specs.List.{AllByRecursion}
+use Rattle.std.proofs.lemmas.Bool.{and_parts}
+use Rattle.ild_data.proofs.AllOf.{all_push}
 use Rattle.ild_data.specs.Data.{Data}
 use Rattle.ild_cbor.specs.Nodes.{HasData}
 use Rattle.ild_cbor.specs.declared.node.Node.{Node}
@@ -23,14 +25,6 @@ pub record Telling (rows : List Row) (fs : List Field) (es : List (List ℕ × D
   pub left : HasLeft s rest
   pub told : b ≡ true → AllByRecursion (IsToldAt rows fs) (by_place fs done)
 
-both : (a b : Bool) → (a && b) ≡ true → (a ≡ true) × (b ≡ true)
-both true b h = (refl, h)
-both false b h = absurd cc
-
-all_more : {A : Type 0} (P : A → Type 0) (xs : List A) (x : A) → AllByRecursion P xs → P x → AllByRecursion P (xs ++ x ∷ [])
-all_more P [] x all own = (own, tt)
-all_more P (y ∷ xs) x all own = (all.0, all_more P xs x all.1 own)
-
 module _ (rows : List Row) (fs : List Field) (es : List (List ℕ × Data)) (s t : MapEntries) (old : Bool) where
   pub telling_on : (new own : Bool) (key : Bor (List ℕ)) (place : ℕ) (n : Node) → new ≡ (old && own) → place ≡ place_of fs key.now → EntriesGive s (Some (key, n)) t
       → (own ≡ true → (d : Data) → HasData n d → IsToldAt rows fs (place, d)) → Telling rows fs es s old → Telling rows fs es t new
@@ -46,9 +40,9 @@ module _ (rows : List Row) (fs : List Field) (es : List (List ℕ × Data)) (s t
           is = is ∙ ap (λ (f : List ℕ × Data). h.done ++ f ∷ rest) entry ∙ sym (append_assoc h.done ((key.now, e.1) ∷ []) rest);
           left = x.left;
           told = λ yes.
-              let two = both old own (sym is_new ∙ yes) in
+              let two = and_parts old own (sym is_new ∙ yes) in
               subst (AllByRecursion (IsToldAt rows fs)) (sym (map_snoc (λ (f : List ℕ × Data). (place_of fs f.0, f.1)) h.done (key.now, e.1)))
-              (all_more (IsToldAt rows fs) (by_place fs h.done) (place_of fs key.now, e.1) (h.told two.0) (subst (λ k. IsToldAt rows fs (k, e.1)) at (tells two.1 e.1 x.stands)));
+              (all_push (IsToldAt rows fs) (by_place fs h.done) (place_of fs key.now, e.1) (h.told two.0) (subst (λ k. IsToldAt rows fs (k, e.1)) at (tells two.1 e.1 x.stands)));
         }
 
   pub telling_end : EntriesGive s None t → Telling rows fs es s old → old ≡ true → AllByRecursion (IsToldAt rows fs) (by_place fs es)

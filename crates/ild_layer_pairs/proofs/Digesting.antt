@@ -6,7 +6,7 @@ use Rattle.std.specs.Cmp.Lexicographic.{same_text as text_same}
 use Rattle.std.proofs.lemmas.Bool.{eq-eqb, eqb-true, ltb-false, ltb-true}
 use Rattle.std.proofs.lemmas.List.Sorted.{IsPermutation-sym}
 use Rattle.std.proofs.lemmas.Map.Keys.{IsDistinct-IsPermutation}
-use Rattle.std.proofs.lemmas.Option.{same_Some, none-some}
+use Rattle.ild_layer_fields.proofs.Noting.{any_more}
 use Rattle.ild_data.specs.Data as T
 use Rattle.ild_data.specs.Data.{Data}
 use Rattle.ild_data.specs.Key.{same_text}
@@ -16,18 +16,14 @@ use Rattle.ild_cbor.specs.Spelled.{SpellsSomeItems}
 use Rattle.ild_cbor.specs.Steps.{HasItems, ItemsGive, UnfoldFirst, Unfolded, Unfolds}
 use Rattle.ild_cbor.specs.declared.items.Items.{Items}
 use Rattle.ild_cbor.specs.declared.node.Node.{Node}
-use Rattle.ild_layer_fields.proofs.Pairing.{item_end}
+use Rattle.ild_layer_fields.proofs.Pairing.{item_end, text_is}
 use Rattle.ild_typed.specs.Named.{has_twice, is_among, pair_names}
 use Rattle.ild_typed.specs.Strings.{pair_data}
 use Rattle.ild_layer_pairs.specs.Apart.{AreDigested, IsNamed, climbs, digest_of, follows}
 use Rattle.ild_layer_pairs.specs.Judged.{IsJudged, is_miscounted, is_odd}
-use Rattle.ild_layer_pairs.proofs.Judging.{any_more, names_more}
+use Rattle.ild_layer_pairs.proofs.Judging.{names_more}
 
 -- ---- the first pair
-
-text_is : (d : Data) (k : List ℕ) → Some k ≡ text_found d → d ≡ T.text k
-text_is (T.text s) k e = ap T.text (sym (same_Some k s e))
-text_is d k e = absurd (none-some k (sym e))
 
 module _ (s t u w : Items) (y v : Node) (k : List ℕ)
     (opens : Unfolds s (Some 2) t) (one : ItemsGive t (Some y) u) (text : (e : Data) → HasData y e → Some k ≡ text_found e) (two : ItemsGive u (Some v) w)

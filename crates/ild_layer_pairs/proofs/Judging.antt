@@ -3,6 +3,7 @@ use Rattle.std.proofs.Common.{◌≡◌, ℕ, List, [], ◌∷◌, ◌++◌, app
 use Rattle.std.specs.Borrow.{Bor}
 use Rattle.std.specs.BTreeSet.{BTreeSet}
 use Rattle.std.specs.List.{list_any}
+use Rattle.ild_layer_fields.proofs.Noting.{any_more}
 use Rattle.ild_data.specs.Data as T
 use Rattle.ild_data.specs.Data.{Data}
 use Rattle.ild_data.specs.Key.{same_text}
@@ -29,16 +30,6 @@ pub pair_same : (e f : List ℕ × Data) → pair_data e ≡ pair_data f → (e.
 pair_same e f h = (cc, cc)
 
 -- ---- the pairs of a list, as they were met
-
-pub any_more : {A : Type 0} (p : A → Bool) (xs : List A) (x : A) → list_any p (xs ++ x ∷ []) ≡ (list_any p xs || p x)
-any_more p [] x = or_false (p x) where
-  or_false : (b : Bool) → (b || false) ≡ b
-  or_false true = refl
-  or_false false = refl
-any_more p (y ∷ ys) x = ap (λ b. p y || b) (any_more p ys x) ∙ assoc (p y) (list_any p ys) (p x) where
-  assoc : (a b c : Bool) → (a || (b || c)) ≡ ((a || b) || c)
-  assoc true b c = refl
-  assoc false b c = refl
 
 any_found : {A : Type 0} (p : A → Bool) (xs ys : List A) (x : A) → p x ≡ true → list_any p (xs ++ x ∷ ys) ≡ true
 any_found p [] ys x e = ap (λ b. b || list_any p ys) e

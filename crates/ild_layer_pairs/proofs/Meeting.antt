@@ -3,6 +3,7 @@ use Rattle.std.proofs.Common.{◌≡◌, ℕ, List, [], ◌∷◌, map, Bool, tr
 use Rattle.std.specs.Borrow.{Bor}
 use Rattle.std.specs.BTreeSet.{BTreeSet}
 use Rattle.std.specs.List.{list_any}
+use Rattle.ild_layer_fields.proofs.Noting.{turn}
 use Rattle.ild_data.specs.Key.{same_text}
 use Rattle.ild_typed.specs.Named.{has_twice, is_among}
 use Rattle.ild_typed.proofs.Entries.{same_text_self}
@@ -24,12 +25,6 @@ meets_none : (rest : List (List ℕ)) → list_any (λ k. is_among k []) rest �
 meets_none [] = refl
 meets_none (k ∷ rest) = meets_none rest
 
-or_swap : (a b c d : Bool) → ((a || b) || (c || d)) ≡ ((a || c) || (b || d))
-or_swap true b c d = refl
-or_swap false true true d = refl
-or_swap false true false d = refl
-or_swap false false c d = refl
-
 or_turn : (a b c : Bool) → (a || (b || c)) ≡ ((b || a) || c)
 or_turn true true c = refl
 or_turn true false c = refl
@@ -42,7 +37,7 @@ meets_more k done [] = refl
 meets_more k done (x ∷ rest) =
     ap (λ b. (b || is_among x done) || list_any (λ y. is_among y (k ∷ done)) rest) (same_swap x k)
     ∙ ap (λ b. (same_text k x || is_among x done) || b) (meets_more k done rest)
-    ∙ or_swap (same_text k x) (is_among x done) (is_among k rest) (list_any (λ y. is_among y done) rest)
+    ∙ turn (same_text k x) (is_among x done) (is_among k rest) (list_any (λ y. is_among y done) rest)
 
 pub record Meeting (all rest : List (List ℕ)) (seen : BTreeSet (Bor (List ℕ))) : Type 0 where
   pub done : List (List ℕ)

@@ -3,6 +3,8 @@ use Rattle.std.proofs.Common.{◌≡◌, ℕ, zero, suc, ◌+◌, ◌<◌, ◌�
 use Rattle.std.specs.Prelude.{slice_get}
 use Rattle.std.specs.List.{AllByRecursion}
 use Rattle.std.proofs.lemmas.Option.{none-some, same_Some}
+use Rattle.ild_data.proofs.Gets.{drop_past, drop_at}
+use Rattle.ild_data.proofs.AllOf.{all_at}
 use Rattle.ild_data.specs.Data as T
 use Rattle.ild_data.specs.Data.{Data}
 use Rattle.ild_data.specs.Tree.{IsTree}
@@ -42,7 +44,6 @@ use Rattle.ild_layer_parts.specs.Ways.{LeadsWay}
 use Rattle.ild_layer_places.specs.Places.{steps_of}
 use Rattle.ild_layer_parts.specs.Part.{FitsAnywhere, IsSpotted}
 use Rattle.ild_layer_parts.proofs.Scalars.{bool_plain, int_plain, text_plain}
-use Rattle.ild_layer_parts.proofs.Lists.{all_got, drop_end, drop_got}
 
 -- ---- a value that is left out
 
@@ -96,7 +97,7 @@ written_next n fs os f o known at = let same : suc n ≡ n + 1 = omega arith in 
 module _ (rows : List Row) (def : StructDef) (parts : StructParts) (next : ℕ) (ps : List Spot) (h : FieldsLeft rows def parts next ps) where
   pub fields_end : length def.fields ≤ next → ps ≡ []
   fields_end most =
-      h.is ∙ ap (λ fs. field_spots def.form (written_in next def.fields h.held) fs (drop next h.held)) (drop_end def.fields next most) ∙ nothing (drop next h.held)
+      h.is ∙ ap (λ fs. field_spots def.form (written_in next def.fields h.held) fs (drop next h.held)) (drop_past def.fields next most) ∙ nothing (drop next h.held)
     where
       nothing : (os : List (Option Data)) → field_spots def.form (written_in next def.fields h.held) [] os ≡ []
       nothing [] = refl
@@ -111,8 +112,8 @@ module _ (rows : List Row) (def : StructDef) (parts : StructParts) (next : ℕ) 
 
     all_are : ps ≡ First o
     all_are =
-        h.is ∙ ap (λ fs. field_spots def.form (written_in next def.fields h.held) fs (drop next h.held)) (drop_got def.fields next f known)
-        ∙ ap (λ os. field_spots def.form (written_in next def.fields h.held) (f ∷ drop (next + 1) def.fields) os) (drop_got h.held next o at)
+        h.is ∙ ap (λ fs. field_spots def.form (written_in next def.fields h.held) fs (drop next h.held)) (drop_at def.fields next f known)
+        ∙ ap (λ os. field_spots def.form (written_in next def.fields h.held) (f ∷ drop (next + 1) def.fields) os) (drop_at h.held next o at)
 
     counted : written_in (next + 1) def.fields h.held ≡ written_in next def.fields h.held + count_there f o
     counted = written_next next def.fields h.held f o known at
@@ -153,7 +154,7 @@ module _ (rows : List Row) (def : StructDef) (parts : StructParts) (next : ℕ) 
         taken = value_spot f.slot d [] ∷ [];
         others = Rest (written_in next def.fields h.held);
         is = is ∙ spots_left_out d k;
-        fit = (implicit_fits rows h.legible f d (all_got (ImplicitFits rows) def.fields next f h.fitting known) k, tt);
+        fit = (implicit_fits rows h.legible f d (all_at (ImplicitFits rows) def.fields next f h.fitting known) k, tt);
         left = behind (written_in next def.fields h.held) (left_out d count k);
       }
 
@@ -242,7 +243,7 @@ implicit_told rows def parts next ps h f d known at part there b tells =
 -- ---- the types of fields
 
 pub field_low : (count : ℕ) (fs : List Field) (i : ℕ) (f : Field) → AllByRecursion (λ g. g.slot.ty.0 < count) fs → slice_get fs i ≡ Some f → f.slot.ty.0 < count
-field_low count fs i f all e = all_got (λ g. g.slot.ty.0 < count) fs i f all e
+field_low count fs i f all e = all_at (λ g. g.slot.ty.0 < count) fs i f all e
 
 pub plain_numbered : (rows : List Row) (p : Piece) → passes_over p ≡ false → IsNumbered rows p
 plain_numbered rows (Q.Node n) e = tt

@@ -1,5 +1,4 @@
 pub mod Asking
-pub mod Lists
 pub mod Leading
 pub mod Scalars
 pub mod Showing

@@ -1,6 +1,7 @@
 -- Parts that are passed over, since their kind alone tells that they are values.
 use Rattle.std.proofs.Common.{◌≡◌, ◌<◌, ◌++◌, ℕ, ◌+◌, ◌-◌, ◌^◌, min, arith, length, List, [], ◌∷◌, map, Some, None, refl, sym, ◌∙◌, ap, subst}
 use Rattle.std.specs.Borrow.{Bor}
+use Rattle.ild_data.proofs.AllOf.{all_append}
 use Rattle.ild_data.specs.Data as T
 use Rattle.ild_data.specs.Data.{Data, Items, items_list, items_of}
 use Rattle.ild_cbor.specs.Nodes.{HasData}
@@ -37,7 +38,6 @@ use Rattle.ild_layer_fields.specs.Told.{scalar_kind}
 use Rattle.ild_layer_parts.proofs.Scalars.{scalar_plain}
 use Rattle.ild_layer_parts.proofs.Leading.{goes_up}
 use Rattle.ild_layer_pairs.proofs.Judging.{pair_same}
-use Rattle.ild_layer_parts.proofs.Lists.{all_join}
 use Rattle.ild_layer_parts.proofs.Showing.{plain_shows}
 
 -- data of the kind of a type without parts
@@ -52,7 +52,7 @@ passes_none rows ps Left left = record { taken = []; others = ps; is = refl; fit
 pub passes_more : (rows : List Row) (ps : List Spot) (Front Left : List Spot → Type 0) → PassesOver rows ps Front → ((qs : List Spot) → Front qs → PassesOver rows qs Left) → PassesOver rows ps Left
 passes_more rows ps Front Left x more =
     let y = more x.others x.left in
-    record { taken = x.taken ++ y.taken; others = y.others; is = x.is ∙ ap (λ qs. x.taken ++ qs) y.is ∙ sym (joined x.taken y.taken y.others); fit = all_join (FitsAnywhere rows) x.taken y.taken x.fit y.fit; left = y.left }
+    record { taken = x.taken ++ y.taken; others = y.others; is = x.is ∙ ap (λ qs. x.taken ++ qs) y.is ∙ sym (joined x.taken y.taken y.others); fit = all_append (FitsAnywhere rows) x.taken y.taken x.fit y.fit; left = y.left }
   where
     joined : (xs ys zs : List Spot) → (xs ++ ys) ++ zs ≡ xs ++ (ys ++ zs)
     joined [] ys zs = refl

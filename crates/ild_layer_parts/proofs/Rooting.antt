@@ -4,6 +4,7 @@ use Rattle.std.specs.Prelude.{slice_get}
 use Rattle.std.specs.List.{AllByRecursion}
 use Rattle.std.specs.Borrow.{Bor}
 use Rattle.std.proofs.lemmas.Option.{none-some, same_Some}
+use Rattle.ild_data.proofs.Gets.{drop_at, drop_past}
 use Rattle.ild_data.specs.Data as T
 use Rattle.ild_data.specs.Data.{Data}
 use Rattle.ild_data.specs.Trie as Trie
@@ -35,7 +36,6 @@ use Rattle.ild_layer_parts.specs.Root.{HasRoot, IsBucketLeft, IsRootHeld, Splits
 use Rattle.ild_layer_parts.specs.Entries.{held_count}
 use Rattle.ild_layer_parts.specs.Ways.{LeadsFirst}
 use Rattle.ild_layer_parts.proofs.Leading.{leads_there}
-use Rattle.ild_layer_parts.proofs.Lists.{drop_got, drop_end}
 use Rattle.ild_layer_places.specs.Places.{steps_of}
 
 none_behind : {A : Type 0} (xs : List A) (i : ℕ) → slice_get xs i ≡ None → drop i xs ≡ []
@@ -104,7 +104,7 @@ module _ (s : RootEntries) (ps : List Spot) (h : HasRoot s ps) where
             subst (SplitsRootOff rows ps (Some r)) (sym is) (record {
               taken = spot ∷ [];
               others = behind;
-              is = all_rest ∙ in_it.3 ∙ ap (λ es. bucket_spots s.key s.value s.element s.entry es ++ root_spots s.key s.value (s.element + 1) (drop h.at h.slots)) (drop_got in_it.0 s.entry e got);
+              is = all_rest ∙ in_it.3 ∙ ap (λ es. bucket_spots s.key s.value s.element s.entry es ++ root_spots s.key s.value (s.element + 1) (drop h.at h.slots)) (drop_at in_it.0 s.entry e got);
               first = (spot, refl, subst (λ y. IsSpotted rows y spot) (sym same) (record { slot = refl; key = refl; stands = ap T.text (sym e_is.0) }));
               left = record {
                 shape = h.shape;
@@ -130,7 +130,7 @@ module _ (s : RootEntries) (ps : List Spot) (h : HasRoot s ps) where
         by (Some e) got e_is =
             leads_there r ps (key_spot s.key e.0 (in_node s.element s.entry 0))
             (value_spot s.value e.1 (in_node s.element s.entry 1) ∷ (bucket_spots s.key s.value s.element (s.entry + 1) (drop (s.entry + 1) in_it.0) ++ root_spots s.key s.value (s.element + 1) (drop h.at h.slots)))
-            (all_rest ∙ in_it.3 ∙ ap (λ es. bucket_spots s.key s.value s.element s.entry es ++ root_spots s.key s.value (s.element + 1) (drop h.at h.slots)) (drop_got in_it.0 s.entry e got)) way
+            (all_rest ∙ in_it.3 ∙ ap (λ es. bucket_spots s.key s.value s.element s.entry es ++ root_spots s.key s.value (s.element + 1) (drop h.at h.slots)) (drop_at in_it.0 s.entry e got)) way
 
       pub root_out : (rows : List Row) → ((es : List (List ℕ × Data)) → HasEntries b es → length es ≤ 16 → EntryIs b es s.entry (slice_get es s.entry) None)
           → (next : ℕ) → (s.element < 2 ^ 64 - 1 → next ≡ s.element + 1)
@@ -174,7 +174,7 @@ module _ (s : RootEntries) (ps : List Spot) (h : HasRoot s ps) where
       few_before = let own = h.few in let no = ap held_count none in omega (arith, own, no)
 
       pub root_end : ((p : HamtShape) (v : NodeView) (slots : List TrieSlot) (i : ℕ) → HasSlots p v slots → IsAtSlot v slots i s.slots → length slots ≤ i) → ps ≡ []
-      root_end over = slots_left ∙ ap (root_spots s.key s.value s.element) (drop_end h.slots h.at (over h.shape h.view h.slots h.at h.has h.left))
+      root_end over = slots_left ∙ ap (root_spots s.key s.value s.element) (drop_past h.slots h.at (over h.shape h.view h.slots h.at h.has h.left))
 
       abbrev Away : Slots → ℕ → Option Bucket → RootEntries
       Away after element bucket = record { key = s.key; value = s.value; slots = after; element = element; bucket = bucket; entry = 0; held = None }
@@ -188,7 +188,7 @@ module _ (s : RootEntries) (ps : List Spot) (h : HasRoot s ps) where
         got = got_or h.slots h.at Trie.empty here.0
 
         now : ps ≡ root_spots s.key s.value s.element (get_or h.slots h.at Trie.empty ∷ drop (h.at + 1) h.slots)
-        now = slots_left ∙ ap (root_spots s.key s.value s.element) (drop_got h.slots h.at (get_or h.slots h.at Trie.empty) got)
+        now = slots_left ∙ ap (root_spots s.key s.value s.element) (drop_at h.slots h.at (get_or h.slots h.at Trie.empty) got)
 
         below : h.at + 1 ≤ length h.slots
         below = let less = here.0 in omega (arith, less)

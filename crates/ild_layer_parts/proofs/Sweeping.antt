@@ -2,6 +2,7 @@
 use Rattle.std.proofs.Common.{◌≡◌, ◌<◌, ◌≤◌, ℕ, zero, suc, ◌+◌, List, [], ◌∷◌, ◌++◌, drop, Bool, true, false, cond, not, Option, Some, None, refl, sym, ◌∙◌, ap, subst, arith}
 use Rattle.std.specs.Prelude.{slice_get}
 use Rattle.std.specs.List.{AllByRecursion}
+use Rattle.ild_data.proofs.AllOf.{all_at, all_append}
 use Rattle.ild_data.specs.Data.{Data}
 use Rattle.ild_cbor.specs.declared.piece.Piece.{Piece}
 use Rattle.ild_layer_piece.specs.Pieces.{StandsFor}
@@ -19,7 +20,6 @@ use Rattle.ild_typed.specs.Spots.{Spot, field_spots, field_steps, value_spot}
 use Rattle.ild_layer_parts.specs.Fields.{FieldsLeft, is_there, written_in}
 use Rattle.ild_layer_parts.specs.inside.Leaf.{IsFitAt, PassesOver}
 use Rattle.ild_layer_parts.specs.Part.{FitsAnywhere}
-use Rattle.ild_layer_parts.proofs.Lists.{all_got, all_join}
 use Rattle.ild_layer_parts.proofs.FieldSteps.{implicit_fits}
 
 -- in front of a number, the fields with these data are values
@@ -52,7 +52,7 @@ sweep_on rows fs all first next s t r w gives less fits = by w.left w.is w.has w
   by (x ∷ xs) is has =
       let k = gives (x ∷ xs) has in
       let own : FitBefore rows fs next x = λ low. subst (λ i. IsFitAt rows fs i x.1) k.number (fits (subst (λ i. i < next) (sym k.number) low) x.1 (k.stands rows)) in
-      record { done = w.done ++ x ∷ []; left = xs; is = is ∙ joined w.done x xs; has = k.left; fit = all_join (FitBefore rows fs next) w.done (x ∷ []) (fewer w.done w.fit) (own, tt) }
+      record { done = w.done ++ x ∷ []; left = xs; is = is ∙ joined w.done x xs; has = k.left; fit = all_append (FitBefore rows fs next) w.done (x ∷ []) (fewer w.done w.fit) (own, tt) }
 
 pub sweep_ends : (rows : List Row) (fs : List Field) (all : List (ℕ × Data)) (first : ℕ) (s t : Present) → Sweeping rows fs all first s → PresentGives s None t → AllByRecursion (FitBefore rows fs first) all
 sweep_ends rows fs all first s t w gives = by w.left w.is w.has where
@@ -127,7 +127,7 @@ fields_pass rows def parts next begun first ps h all present fit =
     }
   where
     own : (i : ℕ) (f : Field) (d : Data) → i < first → slice_get def.fields i ≡ Some f → slice_get h.held i ≡ Some (Some d) → (b : Bool) → is_implicit f.implicit d ≡ b → FitsAnywhere rows (value_spot f.slot d [])
-    own i f d low known held true e = implicit_fits rows h.legible f d (all_got (ImplicitFits rows) def.fields i f h.fitting known) e
+    own i f d low known held true e = implicit_fits rows h.legible f d (all_at (ImplicitFits rows) def.fields i f h.fitting known) e
     own i f d low known held false e =
         let k = present.whole i f d (subst (λ fs. slice_get fs i ≡ Some f) (sym h.same) known) held e in
-        all_got (FitBefore rows def.fields first) all k.0 (i, d) fit k.1 low f known
+        all_at (FitBefore rows def.fields first) all k.0 (i, d) fit k.1 low f known

@@ -1,6 +1,7 @@
 -- Fields of which kinds told in the pass of the layer that they are values: all are passed over.
 use Rattle.std.proofs.Common.{◌≡◌, ℕ, List, [], ◌∷◌, true, refl, sym, ◌∙◌, ap, subst}
 use Rattle.std.specs.List.{AllByRecursion}
+use Rattle.ild_data.proofs.AllOf.{all_at}
 use Rattle.ild_data.specs.Data.{Data}
 use Rattle.ild_cbor.specs.Scalar.{kind_of}
 use Rattle.ild_schema.specs.Legible.{IsLegible}
@@ -18,14 +19,13 @@ use Rattle.ild_layer_parts.specs.Fields.{FieldsLeft}
 use Rattle.ild_layer_parts.specs.inside.Leaf.{PassesOver}
 use Rattle.ild_layer_parts.specs.Ready.{AreIn, IsIn}
 use Rattle.ild_layer_parts.proofs.Passing.{kind_fits}
-use Rattle.ild_layer_parts.proofs.Lists.{all_got}
 use Rattle.ild_layer_parts.proofs.Sweeping.{FitBefore, fields_pass}
 
 module _ (rows : List Row) (schema : IsSchema rows) (legible : IsLegible rows) (fs : List Field) (low : AreIn rows fs) (first : ℕ) where
   told_fits : (x : ℕ × Data) → IsToldAt rows fs x → FitBefore rows fs first x
   told_fits x told = λ less f known tree room.
       let t = told f known in
-      kind_fits rows schema legible f.slot (all_got (λ g. IsIn rows g.slot) fs x.0 f low known) (kind_of x.1)
+      kind_fits rows schema legible f.slot (all_at (λ g. IsIn rows g.slot) fs x.0 f low known) (kind_of x.1)
       (λ d is. ap scalar_kind (same_Some d t.type (sym is ∙ t.is)) ∙ t.kind) x.1 refl tree room
 
   told_all : (xs : List (ℕ × Data)) → AllByRecursion (IsToldAt rows fs) xs → AllByRecursion (FitBefore rows fs first) xs

@@ -4,8 +4,8 @@ use Rattle.std.specs.Prelude.{bytes_eq, slice_get}
 use Rattle.std.specs.List.{AllByRecursion, list_any, position_from}
 use Rattle.std.specs.Cmp.Lexicographic.{same_text as text_same}
 use Rattle.std.proofs.lemmas.Option.{same_Some, none-some}
+use Rattle.std.proofs.lemmas.Bool.{or_from}
 use Rattle.ild_data.specs.Key.{same_text}
-use Rattle.ild_typed.proofs.Cleans.{false_or}
 use Rattle.ild_typed.proofs.Entries.{same_text_self}
 
 pub all_of : {A : Type 0} (P : A → Type 0) (xs : List A) → ((x : A) → P x) → AllByRecursion P xs
@@ -46,7 +46,7 @@ none_ended p q i [] all e = refl
 none_ended {A} p q i (x ∷ xs) all e = by (p x) all.0 (none_ended p q (i + 1) xs all.1) e where
   by : (b : Bool) → b ≡ q x → (position_from p (i + 1) xs ≡ None → list_any q xs ≡ false) → cond b (Some i) (position_from p (i + 1) xs) ≡ None → list_any q (x ∷ xs) ≡ false
   by true is more k = absurd (none-some i (sym k))
-  by false is more k = false_or (q x) (list_any q xs) (sym is) (more k)
+  by false is more k = or_from (q x) (list_any q xs) (sym is) (more k)
 
 -- two tests of texts are one
 pub text_agrees : (s a : List ℕ) → bytes_eq s a ≡ same_text a s

@@ -3,10 +3,11 @@ use Rattle.std.proofs.Common.{◌≡◌, ℕ, true, false, cond, List, Option, S
 use Rattle.std.proofs.lemmas.Option.{same_Some}
 use Rattle.std.specs.Borrow.{Bor}
 use Rattle.std.specs.Option.{option_and_then}
+use Rattle.ild_typed.proofs.WalkTotal.{keys_rise}
 use Rattle.ild_data.specs.Data as T
 use Rattle.ild_data.specs.Data.{Data, Members, members_list, members_of}
 use Rattle.ild_data.specs.Key.{Rises, value_at, without}
-use Rattle.ild_data.specs.Tree.{IsTree, AreEntries}
+use Rattle.ild_data.specs.Tree.{AreEntries}
 use Rattle.ild_data.proofs.Lists.{items_of-items_list, members_list-members_of}
 use Rattle.ild_data.proofs.Rising.{rises_without}
 use Rattle.ild_cbor.specs.declared.node.Node.{Node}
@@ -28,16 +29,6 @@ use Rattle.ild_layer_piece.specs.Pieces.{IsWithout, StandsFor, is_key}
 pub rises_members : (ms : Members) → AreEntries ms → Rises (members_list ms)
 rises_members T.no_members all = tt
 rises_members (T.member k d ms) all = (all.2, rises_members ms all.3)
-
-pub keys_rise : (t : Data) → IsTree t → KeysRise t
-keys_rise T.null h = tt
-keys_rise (T.boolean b) h = tt
-keys_rise (T.integer n) h = tt
-keys_rise (T.text s) h = tt
-keys_rise (T.bytes s) h = tt
-keys_rise (T.list ds) h = tt
-keys_rise (T.map ms) h = rises_members ms h
-keys_rise (T.link s) h = tt
 
 -- the keys of what a piece stands for rise
 pub piece_rises : (rows : List Row) (p : Piece) (t : Data) → StandsFor rows p t → KeysRise t

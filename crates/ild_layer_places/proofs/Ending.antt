@@ -5,6 +5,9 @@ use Rattle.std.specs.Option.{option_map_or}
 use Rattle.std.specs.List.{AllByRecursion, flat_map}
 use Rattle.std.specs.Cmp.Lexicographic.{same_text as text_same, other_text}
 use Rattle.std.proofs.lemmas.Option.{same_Some, none-some}
+use Rattle.ild_typed.proofs.PartsReached.{stringpairs_bare, implicit_bare, entries_bare, joined_bare}
+use Rattle.ild_typed.proofs.RefusalsReached.{plain_struct}
+use Rattle.ild_data.proofs.Options.{none_is}
 use Rattle.ild_data.specs.Data as T
 use Rattle.ild_data.specs.Data.{Data}
 use Rattle.ild_data.specs.Key.{same_text, put, value_at, Rises}
@@ -26,44 +29,39 @@ use Rattle.ild_schema.specs.declared.def.UnionForm.{UnionForm}
 use Rattle.ild_schema.specs.declared.def.UnionForm.TheVariants as UF
 use Rattle.ild_schema.specs.declared.def.Field.{Field}
 use Rattle.ild_schema.specs.declared.def.Member.{Member}
-use Rattle.ild_schema.specs.declared.def.Scalar.{Scalar}
 use Rattle.ild_schema.specs.Marks.{field_text, mark_text, mark_kind}
 use Rattle.ild_schema.specs.DataKinds.{same_kind}
 use Rattle.ild_schema.specs.Hex.{bytes_of_hex}
 use Rattle.ild_schema.specs.Clear.{AreNamesApart, ClearStruct, KeysApart, ClearType}
 use Rattle.ild_typed.specs.Layer as L
-use Rattle.ild_typed.specs.Layer.{Layer, as_list, as_map, as_struct, as_union}
+use Rattle.ild_typed.specs.Layer.{Layer, as_list, as_struct, as_union}
 use Rattle.ild_typed.specs.Kinds.{kind_word_of}
 use Rattle.ild_typed.specs.Slots.{slot_of}
-use Rattle.ild_typed.specs.Texts.{join, join_pairs}
+use Rattle.ild_typed.specs.Texts.{join}
 use Rattle.ild_typed.specs.Fields.{is_implicit, field_entries, are_absent, tuple_items, all_items}
-use Rattle.ild_typed.specs.Strings.{text_in, bytes_in, members_in, texts_in, text_pairs, in_key_order, map_data, pair_data, listpairs, stringpairs, stringjoin}
+use Rattle.ild_typed.specs.Strings.{text_in, bytes_in, members_in, texts_in, in_key_order, map_data, pair_data, listpairs, stringpairs, stringjoin}
 use Rattle.ild_typed.specs.Composed.{composed, map_form, struct_form, inlined, marked_form, member_form, union_form}
 use Rattle.ild_typed.specs.Hamt.{alone, root_map}
 use Rattle.ild_typed.specs.Spots.{Step, Spot, item, key, under, value_spot, element_spots, entry_spots, field_steps, field_spots, member_steps, member_spots, spots_of}
 use Rattle.ild_typed.specs.RootSpots.{bucket_spots, root_spots}
 use Rattle.ild_typed.specs.Refused.{AreParts}
 use Rattle.ild_typed.specs.Ways.{moved, step_in, found_at}
-use Rattle.ild_typed.proofs.Basics.{then_from, map_from, true_from, both_true}
-use Rattle.ild_typed.proofs.Entries.{both_from, only_text_data, only_bytes_data, value_sorted, value_first}
+use Rattle.ild_typed.proofs.Basics.{then_from, map_from, true_from}
+use Rattle.ild_typed.proofs.Entries.{only_text_data, only_bytes_data, value_sorted, value_first}
 use Rattle.ild_typed.proofs.Onlies.{only_list, only_struct, only_union}
 use Rattle.ild_typed.proofs.PartsTrees.{content_found}
 use Rattle.ild_typed.proofs.Rising.{first_there, below_none}
-use Rattle.ild_typed.proofs.Structs.{scalar_same, written, field_from, look, past, not_there}
-use Rattle.ild_typed.proofs.TreeNodes.{all_split}
-use Rattle.ild_typed.proofs.Unions.{only_map_data, is_none_says}
-use Rattle.ild_typed.proofs.WaySteps.{IsBare, bare_text, bare_bytes, bare_scalar, item_found, key_found, value_found, StandFrom, first_of, rest_of, from_start}
+use Rattle.ild_typed.proofs.Structs.{written, field_from, look, past, not_there}
+use Rattle.ild_typed.proofs.Unions.{only_map_data}
+use Rattle.ild_typed.proofs.WaySteps.{IsBare, bare_text, bare_bytes, item_found, key_found, value_found, StandFrom, first_of, rest_of, from_start}
 use Rattle.ild_layer_places.specs.Ending.{Ends, EndsAt, EndsBelow, FieldsEnd, IsOwn, PartsEnd, has_inline}
 use Rattle.ild_layer_piece.specs.Pieces.{form_key}
 use Rattle.ild_schema.specs.declared.row.Row.{Row}
 use Rattle.ild_schema.specs.Copies.{base}
-use Rattle.ild_schema.specs.Places.{first_place}
-use Rattle.ild_schema.specs.Rules.{is_bare_join, is_field_wrong}
 use Rattle.ild_schema.proofs.Legibly.{legible}
-use Rattle.ild_schema.proofs.Passing.{all_pass, all_of}
 use Rattle.ild_schema.proofs.Ruling.{Passes, def_passes}
-use Rattle.ild_typed.proofs.Cleans.{or_false}
-use Rattle.std.specs.Prelude.{is_some, if◌then◌else◌}
+use Rattle.std.specs.Prelude.{is_some}
+use Rattle.std.proofs.lemmas.Bool.{and_parts}
 
 -- ---- ways
 
@@ -136,19 +134,6 @@ pairs_end k s whole i (e ∷ es) each =
       (below _ _ _ _ (to_item whole i (pair_data e) (item 1 ∷ []) e.1 here (to_item (T.text e.0 ∷ e.1 ∷ []) 1 e.1 [] e.1 refl (ends_here e.1))), rest),
     )
 
-texts_bare : (es : List (List ℕ × Data)) (ts : List (List ℕ × List ℕ)) → text_pairs es ≡ Some ts → AllByRecursion (λ e. IsBare e.1) es
-texts_bare [] ts h = tt
-texts_bare (e ∷ es) ts h =
-    let b = both_from (option_map {U = List ℕ × List ℕ} (λ s. (e.0, s)) (text_in e.1)) (text_pairs es) ts h in
-    let x = map_from {B = List ℕ × List ℕ} (λ s. (e.0, s)) (text_in e.1) b.item b.first in
-    (subst IsBare (sym (only_text_data e.1 x.item x.there)) (bare_text x.item), texts_bare es b.items b.rest)
-
-stringpairs_bare : (inner entry : List ℕ) (es : List (List ℕ × Data)) (t : Data) → stringpairs inner entry es ≡ Some t → AllByRecursion (λ e. IsBare e.1) es
-stringpairs_bare inner entry es t h =
-    let x = map_from T.text (option_and_then (join_pairs inner entry) (text_pairs es)) t h in
-    let y = then_from (join_pairs inner entry) (text_pairs es) x.item x.there in
-    texts_bare es y.item y.there
-
 inside_end : (inner entry : List ℕ) (k : TypeNo) (s : Slot) (t : Data) (i : ℕ) (es : List (List ℕ × Data)) → AllByRecursion (λ e. IsBare e.1) es → All t (entry_spots (MF.StringPairs inner entry) k s i es)
 inside_end inner entry k s t i [] bare = tt
 inside_end inner entry k s t i (e ∷ es) bare =
@@ -164,10 +149,6 @@ map_end (MF.StringPairs inner entry) k s es t made tree = inside_end inner entry
 map_end (MF.Hamt p) k s es t made tree = absurd (none-some t made)
 
 -- ---- fields
-
-implicit_bare : (o : Option Scalar) (d : Data) → is_implicit o d ≡ true → IsBare d
-implicit_bare None d e = absurd cc
-implicit_bare (Some s) d e = subst IsBare (sym (scalar_same s d e)) (bare_scalar s)
 
 -- under its name, where the names are apart
 named_end : (whole : List (List ℕ × Data)) (n : ℕ) (fs : List Field) (os : List (Option Data)) (es : List (List ℕ × Data)) → AreNamesApart fs → field_entries fs os ≡ Some es → FoundIn whole es
@@ -224,7 +205,7 @@ absent_end : (t : Data) (form : StructForm) (n : ℕ) (fs : List Field) (os : Li
 absent_end t form n [] os e = tt
 absent_end t form n (f ∷ fs) [] e = tt
 absent_end t form n (f ∷ fs) (Some d ∷ os) e = absurd cc
-absent_end t form n (f ∷ fs) (None ∷ os) e = absent_end t form n fs os (both_true f.optional (are_absent fs os) e).1
+absent_end t form n (f ∷ fs) (None ∷ os) e = absent_end t form n fs os (and_parts f.optional (are_absent fs os) e).1
 
 -- no field of a tuple has a value that stands for it
 abbrev AreWritten : List Field → Type 0
@@ -235,7 +216,7 @@ tuple_end : (whole : List Data) (n : ℕ) (fs : List Field) (os : List (Option D
 tuple_end whole n [] os ds all e each = tt
 tuple_end whole n (f ∷ fs) [] ds all e each = tt
 tuple_end whole n (f ∷ fs) (None ∷ os) ds all e each =
-    absent_end (T.list (T.items_of whole)) S.Tuple n fs os (both_true f.optional (are_absent fs os) (true_from (are_absent (f ∷ fs) (None ∷ os)) [] ds e).0).1
+    absent_end (T.list (T.items_of whole)) S.Tuple n fs os (and_parts f.optional (are_absent fs os) (true_from (are_absent (f ∷ fs) (None ∷ os)) [] ds e).0).1
 tuple_end whole n (f ∷ fs) (Some d ∷ os) ds all e each =
     let x = map_from (λ r. d ∷ r) (tuple_items fs os) ds e in
     let own : StandFrom whole n (d ∷ x.item) = subst (StandFrom whole n) (sym (same_Some (d ∷ x.item) ds x.made)) each in
@@ -254,31 +235,6 @@ bare_fields_end t form none n (f ∷ fs) (Some d ∷ os) bare = pick (is_implici
       → All t (cond b (value_spot f.slot d [] ∷ field_spots form n fs os) (value_spot f.slot d (field_steps form f n) ∷ field_spots form (n + 1) fs os))
   pick true later = (inl bare.0, later n)
   pick false later = (inl bare.0, later (n + 1))
-
-entries_bare : (fs : List Field) (os : List (Option Data)) (es : List (List ℕ × Data)) → field_entries fs os ≡ Some es → AllByRecursion (λ e. IsBare e.1) es → AllByRecursion (λ o. IfSome o IsBare) os
-entries_bare fs [] es e all = tt
-entries_bare [] (o ∷ os) es e all = absurd (none-some es e)
-entries_bare (f ∷ fs) (o ∷ os) es e all =
-    let x = field_from f fs o os es e in
-    let both = all_split (λ (q : List ℕ × Data). IsBare q.1) (written f o) x.rest (subst (AllByRecursion (λ (q : List ℕ × Data). IsBare q.1)) x.is all) in
-    (by o both.0, entries_bare fs os x.rest x.later both.1)
-  where
-    by : (o : Option Data) → AllByRecursion (λ (q : List ℕ × Data). IsBare q.1) (written f o) → IfSome o IsBare
-    by None own = tt
-    by (Some d) own = pick (is_implicit f.implicit d) refl own where
-      pick : (b : Bool) → is_implicit f.implicit d ≡ b → AllByRecursion (λ (q : List ℕ × Data). IsBare q.1) (cond b [] ((field_text f, d) ∷ [])) → IsBare d
-      pick true is mine = implicit_bare f.implicit d is
-      pick false is mine = mine.0
-
-joined_bare : (fs : List Field) (os : List (Option Data)) (ds : List Data) (ts : List (List ℕ)) → all_items fs os ≡ Some ds → texts_in ds ≡ Some ts → AllByRecursion (λ o. IfSome o IsBare) os
-joined_bare fs [] ds ts e h = tt
-joined_bare [] (o ∷ os) ds ts e h = absurd (none-some ds e)
-joined_bare (f ∷ fs) (None ∷ os) ds ts e h = absurd (none-some ds e)
-joined_bare (f ∷ fs) (Some d ∷ os) ds ts e h =
-    let x = map_from (λ r. d ∷ r) (all_items fs os) ds e in
-    let own : texts_in (d ∷ x.item) ≡ Some ts = ap texts_in (same_Some (d ∷ x.item) ds x.made) ∙ h in
-    let b = both_from (text_in d) (texts_in x.item) ts own in
-    (subst IsBare (sym (only_text_data d b.item b.first)) (bare_text b.item), joined_bare fs os x.item b.items x.there b.rest)
 
 struct_end : (form : StructForm) (fs : List Field) (os : List (Option Data)) (t : Data) → ClearStruct form fs → (form ≡ S.Tuple → AreWritten fs) → struct_form form fs os ≡ Some t → All t (field_spots form 0 fs os)
 struct_end S.Map fs os t clear plain e =
@@ -319,7 +275,7 @@ marked_end s (UF.Envelope k content) d t m name keys is e =
 marked_end s (UF.Inline k) d t m name keys is e =
     let y = then_from (inlined k name) (members_in d) t e in
     let z = true_from (is_none (value_at k y.item)) (map_data (put k (T.text name) y.item)) t y.made in
-    inr (refl, inr (refl, record { key = k; name = name; entries = y.item; none = is_none_says (value_at k y.item) z.0; whole = z.1; part = only_map_data d y.item y.there }))
+    inr (refl, inr (refl, record { key = k; name = name; entries = y.item; none = none_is (value_at k y.item) z.0; whole = z.1; part = only_map_data d y.item y.there }))
 
 member_end : (s : Slot) (form : UnionForm) (d t : Data) (m : Member) → KeysApart form → member_form form d m ≡ Some t → EndsAt (is_some (form_key form)) t (value_spot s d (member_steps form m))
 member_end s UF.Kinded d t m keys e =
@@ -421,17 +377,6 @@ all_parts_end (D.Copy target) t ps clear plain tree (l, made, e) = subst (AllPar
 no_value : {A : Type 0} (o : Option A) → is_some o ≡ false → o ≡ None
 no_value None e = refl
 no_value (Some a) e = absurd cc
-
-tuple_field : (f : Field) → is_field_wrong S.Tuple f ≡ false → f.implicit ≡ None
-tuple_field f fine = no_value f.implicit (or_false (is_some f.rename) (is_some f.implicit) fine).1
-
-plain_struct : (form : StructForm) (at : ℕ) (fs : List Field) → (if is_bare_join form fs then Some at else first_place (is_field_wrong form) (λ f. f.at) fs) ≡ None → form ≡ S.Tuple
-    → AllByRecursion (λ f. f.implicit ≡ None) fs
-plain_struct S.Tuple at fs h is = all_of (λ (f : Field). f.implicit ≡ None) fs (λ i f e. tuple_field f (all_pass (is_field_wrong S.Tuple) (λ f. f.at) fs h i f e))
-plain_struct S.Map at fs h is = absurd cc
-plain_struct S.ListPairs at fs h is = absurd cc
-plain_struct (S.StringPairs inner entry) at fs h is = absurd cc
-plain_struct (S.StringJoin delim) at fs h is = absurd cc
 
 plain_type : (rows : List Row) (at : ℕ) (d : TypeDef) → Passes rows at d → TuplePlain d
 plain_type rows at (D.Struct s) p = plain_struct s.form at s.fields p.strategy

@@ -6,6 +6,7 @@ use Rattle.ild_cbor.specs.Nodes.{HasData}
 use Rattle.ild_cbor.specs.declared.node.Node.{Node}
 use Rattle.ild_cbor.specs.declared.piece.Piece.{Piece}
 use Rattle.ild_cbor.specs.declared.piece.Piece.TheVariants as P
+use Rattle.ild_typed.proofs.PartsReached.{value_back}
 use Rattle.ild_data.specs.Data as T
 use Rattle.ild_data.specs.Data.{Data}
 use Rattle.ild_data.specs.Key.{Rises, same_text, value_at, without}
@@ -31,17 +32,6 @@ use Rattle.ild_layer_places.proofs.Ending.{key_ends, to_value}
 
 abbrev FoundIn : List (List ℕ × Data) → List (List ℕ × Data) → Type 0
 FoundIn whole es = (q : List ℕ) (v : Data) → value_at q es ≡ Some v → value_at q whole ≡ Some v
-
-value_back : (es : List (List ℕ × Data)) (k : List ℕ) (p : ℕ × Data) → value_in k (T.members_of es) ≡ Some p → value_at k es ≡ Some p.1
-value_back [] k p h = absurd (none-some p h)
-value_back (m ∷ es) k p h = by (same_text k m.0) h (value_back es k) where
-  by : (b : Bool) → cond b (Some (length (spell_text m.0), m.1)) (moved (length (spell_text m.0 ++ spell m.1)) (value_in k (T.members_of es))) ≡ Some p
-      → ((q : ℕ × Data) → value_in k (T.members_of es) ≡ Some q → value_at k es ≡ Some q.1) → cond b (Some m.1) (value_at k es) ≡ Some p.1
-  by true is later = ap (λ (q : ℕ × Data). Some q.1) (same_Some (length (spell_text m.0), m.1) p is)
-  by false is later =
-      let front = length (spell_text m.0 ++ spell m.1) in
-      let x = map_from {B = ℕ × Data} (λ q. (front + q.0, q.1)) (value_in k (T.members_of es)) p is in
-      later x.item x.there ∙ ap (λ (q : ℕ × Data). Some q.1) (same_Some (front + x.item.0, x.item.1) p x.made)
 
 record KeyThere (es : List (List ℕ × Data)) (k : List ℕ) (d : Data) : Type 0 where
   value : Data

@@ -26,7 +26,7 @@ use Rattle.ild_layer_places.proofs.Composing.{part_placed}
 use Rattle.ild_layer_places.proofs.Ending.{fields_end, parts_end}
 use Rattle.ild_layer_places.proofs.Inlining.{parts_are_onto}
 
-at_spot : (Q : Spot → Type 0) (done : List Spot) (p : Spot) (others : List Spot) → AllByRecursion Q (done ++ p ∷ others) → Q p
+pub at_spot : (Q : Spot → Type 0) (done : List Spot) (p : Spot) (others : List Spot) → AllByRecursion Q (done ++ p ∷ others) → Q p
 at_spot Q [] p others all = all.0
 at_spot Q (d ∷ done) p others all = at_spot Q done p others all.1
 

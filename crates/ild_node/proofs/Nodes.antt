@@ -17,11 +17,11 @@ use Rattle.ild_node.specs.NewSlots.{IsFilled}
 use Rattle.ild_node.specs.Written.{IsNodeBlock, IsSound}
 use Rattle.ild_node.specs.declared.hold.NewHold.TheVariants as N
 
-entries_in : (es : List (List ℕ × Data)) → AreTexts es → AllByRecursion (λ e. TreeIn deepest_value e.1) es → AllByRecursion (EntryIn deepest_value) es
+pub entries_in : (es : List (List ℕ × Data)) → AreTexts es → AllByRecursion (λ e. TreeIn deepest_value e.1) es → AllByRecursion (EntryIn deepest_value) es
 entries_in [] texts values = tt
 entries_in (e ∷ es) texts values = ((texts.0, values.0), entries_in es texts.1 values.1)
 
-slot_in : (p : HamtShape) (s : TrieSlot) → IsSound p s → SlotIn deepest_value s
+pub slot_in : (p : HamtShape) (s : TrieSlot) → IsSound p s → SlotIn deepest_value s
 slot_in p empty sound = tt
 slot_in p (bucket es) sound = entries_in es sound.form.3 sound.values
 slot_in p (child id) sound = link_fits id sound.form.0 sound.form.1

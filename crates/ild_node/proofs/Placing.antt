@@ -7,6 +7,7 @@ use Rattle.std.specs.FinMap.Entries.{by_order}
 use Rattle.std.specs.declared.cmp.Ordering.{Ordering}
 use Rattle.std.specs.declared.cmp.Ordering.TheVariants.{Less, Equal, Greater}
 use Rattle.std.proofs.lemmas.List.{take_all, length-map}
+use Rattle.ild_data.proofs.Gets.{drop_past}
 use Rattle.ild_data.specs.Data.{Data}
 use Rattle.ild_data.specs.ByteOrder.{bytewise}
 use Rattle.ild_hamt_trie.proofs.Parts.{in_order-put, same_if_equal}
@@ -62,16 +63,10 @@ passed-less k rows i r v was lt is less =
     ∙ ap (λ o. take i (rows_seen rows) ++ by_order o ((k, v) ∷ row_seen r ∷ drop (suc i) (rows_seen rows)) ((r.key, v) ∷ drop (suc i) (rows_seen rows)) (row_seen r ∷ put bytewise k v (drop (suc i) (rows_seen rows)))) less
     ∙ ap (λ xs. take i (rows_seen rows) ++ (k, v) ∷ xs) (sym (dropped rows i r lt is))
 
-drop-past : {X : Type 0} (xs : List X) (i : ℕ) → length xs ≤ i → drop i xs ≡ []
-drop-past [] zero le = refl
-drop-past [] (suc i) le = refl
-drop-past (x ∷ xs) zero le = absurd (omega arith)
-drop-past (x ∷ xs) (suc i) le = drop-past xs i (omega arith)
-
 pub passed-all : (k : List ℕ) (rows : List Row) (v : Data) (i : ℕ) → Passed k rows i → length rows ≤ i → put bytewise k v (rows_seen rows) ≡ insert (rows_seen rows) (length rows) (k, v)
 passed-all k rows v i was le =
-    let none : drop i (rows_seen rows) ≡ [] = drop-past (rows_seen rows) i (let e = seen-long rows in omega arith) in
-    let last : drop (length rows) (rows_seen rows) ≡ [] = drop-past (rows_seen rows) (length rows) (let e = seen-long rows in omega arith) in
+    let none : drop i (rows_seen rows) ≡ [] = drop_past (rows_seen rows) i (let e = seen-long rows in omega arith) in
+    let last : drop (length rows) (rows_seen rows) ≡ [] = drop_past (rows_seen rows) (length rows) (let e = seen-long rows in omega arith) in
     was v ∙ (λ j. take_all i (rows_seen rows) (let e = seen-long rows in omega arith) j ++ put bytewise k v (none j))
     ∙ sym (λ j. take_all (length rows) (rows_seen rows) (let e = seen-long rows in omega arith) j ++ (k, v) ∷ last j)
 

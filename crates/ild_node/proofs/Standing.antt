@@ -1,6 +1,7 @@
 -- The slots of a node that was read are sound.
-use Rattle.std.proofs.Common.{ℕ, zero, suc, ◌≤◌, List, [], ◌∷◌, ◌++◌, map, set, flat_map, arith}
+use Rattle.std.proofs.Common.{ℕ, zero, suc, ◌≤◌, List, [], ◌∷◌, map, set, flat_map, arith}
 use Rattle.std.specs.List.{AllByRecursion}
+use Rattle.ild_data.proofs.AllOf.{all_first, all_second}
 use Rattle.ild_data.specs.Data.{Data, items_of, items_depth}
 use Rattle.ild_data.specs.declared.hamt_shape.HamtShape.{HamtShape}
 use Rattle.ild_data.specs.Limits.{IsWithin}
@@ -17,14 +18,6 @@ use Rattle.ild_node.specs.Written.{IsSound}
 items_in : (n : ℕ) (ds : List Data) → AreTrees (items_of ds) → items_depth (items_of ds) ≤ n → AllByRecursion (TreeIn n) ds
 items_in n [] trees le = tt
 items_in n (d ∷ ds) trees le = (record { tree = trees.0; nested = omega arith }, items_in n ds trees.1 (omega arith))
-
-pub all_left : {X : Type 0} (P : X → Type 0) (xs ys : List X) → AllByRecursion P (xs ++ ys) → AllByRecursion P xs
-all_left P [] ys all = tt
-all_left P (x ∷ xs) ys all = (all.0, all_left P xs ys all.1)
-
-pub all_right : {X : Type 0} (P : X → Type 0) (xs ys : List X) → AllByRecursion P (xs ++ ys) → AllByRecursion P ys
-all_right P [] ys all = all
-all_right P (x ∷ xs) ys all = all_right P xs ys all.1
 
 -- the elements leave room for the node
 pub elements_in : (slots : List TrieSlot) → IsWithin (node_data slots) → AllByRecursion (TreeIn 94) (flat_map elements_of slots)
@@ -45,7 +38,7 @@ slot_sound p (child id) form all = record { form = form; values = tt }
 each_sound : (p : HamtShape) (slots : List TrieSlot) → AreSlots p slots → AllByRecursion (TreeIn 94) (flat_map elements_of slots) → AllByRecursion (IsSound p) slots
 each_sound p [] forms all = tt
 each_sound p (s ∷ slots) forms all =
-    (slot_sound p s forms.0 (all_left (TreeIn 94) (elements_of s) (flat_map elements_of slots) all), each_sound p slots forms.1 (all_right (TreeIn 94) (elements_of s) (flat_map elements_of slots) all))
+    (slot_sound p s forms.0 (all_first (TreeIn 94) (elements_of s) (flat_map elements_of slots) all), each_sound p slots forms.1 (all_second (TreeIn 94) (elements_of s) (flat_map elements_of slots) all))
 
 pub slots-sound : (p : HamtShape) (v : NodeView) (slots : List TrieSlot) → HasSlots p v slots → AllByRecursion (IsSound p) slots
 slots-sound p v slots has = each_sound p slots has.form.each (elements_in slots has.stands.within)

@@ -67,7 +67,7 @@ not-listed p n t a b None Q pair items none = by (pair_in t) pair
 
 -- ---- nodes
 
-same_pair : (m n : List ℕ) (ds es : Items) → ◌≡◌ {A = Option (Data × Data)} (Some (bytes m, list ds)) (Some (bytes n, list es)) → (m ≡ n) × (ds ≡ es)
+pub same_pair : (m n : List ℕ) (ds es : Items) → ◌≡◌ {A = Option (Data × Data)} (Some (bytes m, list ds)) (Some (bytes n, list es)) → (m ≡ n) × (ds ≡ es)
 same_pair m n ds es is =
     let both : ◌≡◌ {A = Data × Data} (bytes m, list ds) (bytes n, list es) = cc in
     (same_bytes m n (ap (λ (x : Data × Data). x.0) both), same_items ds es (ap (λ (x : Data × Data). x.1) both))

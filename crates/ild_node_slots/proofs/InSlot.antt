@@ -6,6 +6,7 @@ use Rattle.std.proofs.lemmas.Bool.{false≢true, false_from_ne_true, cases_lt}
 use Rattle.std.proofs.lemmas.List.FromFn.{length-map-range_with_len}
 use Rattle.std.proofs.lemmas.List.{length-append}
 use Rattle.std.proofs.lemmas.Grind.{flat_map-append}
+use Rattle.ild_data.proofs.Gets.{next_is}
 use Rattle.ild_data.specs.Data.{Data, link}
 use Rattle.ild_data.specs.CidRead.{CidParts}
 use Rattle.ild_data.specs.declared.id.BlockId.{BlockId}
@@ -262,9 +263,6 @@ slot-missing p v slots i n has on before finds =
     found_none v.data (place_of (elements_data slots) n) (item_of (elements_data slots) n) e.of (item_is slots n ∙ ap (slice_get (flat_map elements_of slots)) at ∙ e.found) (finds (elements_data slots) has.part.stands)
 
 -- ---- all slots in turn
-
-next_is : (i : ℕ) → suc i ≡ i + 1
-next_is i = omega arith
 
 elements_more : (slots : List TrieSlot) (i : ℕ) → i < length slots → flat_map elements_of (take (i + 1) slots) ≡ flat_map elements_of (take i slots) ++ elements_of (get_or slots i empty)
 elements_more slots i lt =

@@ -5,6 +5,7 @@ use Rattle.std.specs.Option.{is_none}
 use Rattle.std.specs.Ordering.{eq_by_cmp}
 use Rattle.std.specs.FinMap.{find}
 use Rattle.std.proofs.lemmas.Bool.{false_from_ne_true, false≢true}
+use Rattle.ild_data.proofs.Gets.{next_is}
 use Rattle.ild_data.specs.Data.{Data, bytes, Items, no_items, item}
 use Rattle.ild_cbor.specs.declared.node.Node.{Node}
 use Rattle.ild_cbor.specs.declared.items.Items.{Items as ItemsLeft}
@@ -55,9 +56,6 @@ Halves n r = (d : Data) → HasData n d → PairIs n d (pair_in d) r
 
 not_key : (key k : List ℕ) → (k ≡ key → ⊥) → eq_by_cmp bytewise key k ≡ false
 not_key key k apart = false_from_ne_true _ (λ e. apart (sym (same_key key k e)))
-
-next_is : (k : ℕ) → suc k ≡ k + 1
-next_is k = omega arith
 
 pub value-step : (b : Node) (s t : ItemsLeft) (n : Node) (key : List ℕ) (es : List (List ℕ × Data)) (r : Node × Node) → ValuesLeft b s key es → ItemsGive s (Some n) t → Halves n (Some r)
     → ((d : Data) → HasData r.0 d → bytes_of d ≡ Some key → ⊥) → ValuesLeft b t key es

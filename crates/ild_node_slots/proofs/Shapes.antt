@@ -37,6 +37,3 @@ levels_few p = div_below 256 p.width 256 (omega (arith, p.wide)) (times p.width 
 
 pub levels_suc : (p : HamtShape) → trie_levels p ≡ suc (trie_levels p - 1)
 levels_suc p = let some = levels_some p in omega (arith, some)
-
-pub levels_all : (p : HamtShape) → trie_levels p - 0 ≡ suc (trie_levels p - 1)
-levels_all p = let some = levels_some p in omega (arith, some)

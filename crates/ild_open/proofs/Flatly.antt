@@ -1,9 +1,10 @@
 -- Data that are no list and no map have no HAMT in them.
 use Rattle.std.proofs.Common.{◌≡◌, ℕ, zero, suc, ◌-◌, ◌<◌, List, [], ◌∷◌, ◌++◌, length, get_or, Option, Some, None, option_map, sym, subst, arith}
-use Rattle.std.specs.Prelude.{Contains, IfSome, option_and_then, is_none, slice_get, cond}
+use Rattle.std.specs.Prelude.{IfSome, option_and_then, is_none, slice_get, cond}
 use Rattle.std.specs.List.{AllByRecursion}
 use Rattle.std.proofs.lemmas.Option.{same_Some, none-some}
 use Rattle.ild_cbor.specs.declared.why.BlockWhy.{BlockWhy}
+use Rattle.ild_data.proofs.AllOf.{all_contained, all_at}
 use Rattle.ild_data.specs.Data as T
 use Rattle.ild_data.specs.Data.{Data}
 use Rattle.ild_data.specs.Key.{put, value_at}
@@ -24,7 +25,6 @@ use Rattle.ild_schema.specs.declared.number.Slot.{Slot}
 use Rattle.ild_schema.specs.declared.row.Row.{Row}
 use Rattle.ild_typed.proofs.Basics.{map_from, then_from, true_from}
 use Rattle.ild_typed.proofs.Flat.{FlatFields, FlatPairs, IsFlat, flat_text, stringpairs_flat, struct_join_flat, struct_pairs_flat}
-use Rattle.ild_typed.proofs.Treed.{all_at}
 use Rattle.ild_typed.specs.Composed.{composed, inlined, map_form, marked_form, member_form, struct_form}
 use Rattle.ild_typed.specs.Fields.{field_entries, tuple_items}
 use Rattle.ild_typed.specs.Hamt.{alone}
@@ -93,12 +93,9 @@ has_at P [] i x all lt e = absurd (omega (arith, lt))
 has_at P (y ∷ ys) zero x all lt e = subst P e all.0
 has_at P (y ∷ ys) (suc i) x all lt e = has_at P ys i x all.1 (omega (arith, lt)) e
 
-all_has : {X : Type 0} (P : X → Type 0) (xs : List X) (x : X) → AllByRecursion P xs → Contains xs x → P x
-all_has P xs x all has = has_at P xs has.0 x all has.1 has.2
-
 part_flat : (d : TypeDef) (l : Layer Data) (t : Data) (s : Slot) (x : Data) → composed alone d l ≡ Some t → IsFlat t → IsPartIn d l s x → IsFlat x
 part_flat (D.List elem at) (L.list ds) t s x e flat p = absurd (is_flat (T.list (T.items_of ds)) t e flat)
-part_flat (D.Map key key_at value at form) (L.map es) t s x e flat p = all_has (λ (q : List ℕ × Data). IsFlat q.1) es (p.1, x) (map_flat form es t e flat) p.2
+part_flat (D.Map key key_at value at form) (L.map es) t s x e flat p = all_contained (λ (q : List ℕ × Data). IsFlat q.1) es (p.1, x) (map_flat form es t e flat) p.2
 part_flat (D.Struct def) (L.struct os) t s x e flat p = all_at (λ o. IfSome o IsFlat) os p.0 (Some x) (struct_flat def.form def.fields os t e flat) p.3
 part_flat (D.Union def) (L.union n y) t s x e flat p =
     let m = then_from (member_form def.form y) (slice_get def.members n) t e in

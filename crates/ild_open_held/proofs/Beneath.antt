@@ -1,7 +1,8 @@
 -- The blocks beneath the node of entries, where each node beneath is known.
-use Rattle.std.proofs.Common.{◌≡◌, ℕ, zero, suc, ◌+◌, ◌^◌, ◌<◌, ◌≤◌, nat_le, List, [], ◌∷◌, ◌++◌, length, map, flat_map, Bool, true, false, Option, Some, None, option_map, refl, sym, ◌∙◌, ap, subst, arith}
+use Rattle.std.proofs.Common.{◌≡◌, ℕ, zero, suc, ◌+◌, ◌^◌, ◌<◌, nat_le, List, [], ◌∷◌, ◌++◌, length, map, flat_map, Bool, true, false, Option, Some, None, refl, sym, subst, arith}
 use Rattle.std.specs.List.{AllByRecursion, range_with_len}
 use Rattle.std.proofs.lemmas.Bool.{le-leb, leb-false}
+use Rattle.ild_data.proofs.AllOf.{all_append}
 use Rattle.ild_data.specs.Data.{Data}
 use Rattle.ild_data.specs.Spell.{spell}
 use Rattle.ild_data.specs.Trie.{TrieSlot, all_some, at_depth, bucket_or, link_to, node_data, node_of, part, slot_of, slots_at}
@@ -10,7 +11,6 @@ use Rattle.ild_data.specs.declared.hamt_shape.HamtShape.{HamtShape}
 use Rattle.ild_typed.specs.Known.{AreKnown}
 use Rattle.ild_typed.proofs.Basics.{map_from}
 use Rattle.ild_hamt_trie.proofs.Slots.{some_cons}
-use Rattle.ild_open_held.proofs.Parting.{all_join}
 
 false_true : false ≡ true → ⊥
 false_true e = absurd cc
@@ -41,7 +41,7 @@ module _ (P : List ℕ → Type 0) (K : Data → Type 0) (spelled : (d : Data) �
     by None is h later = absurd cc
     by (Some z) is h later =
         let x = some_cons z (all_some (map (λ i. slot_of most below (part at es i)) js)) slots h in
-        all_join P (node_and_beneath most below beneath (part at es j)) (flat_map (λ i. node_and_beneath most below beneath (part at es i)) js) (one_part most below beneath (part at es j) z is (deep j)) (later x.0 x.1)
+        all_append P (node_and_beneath most below beneath (part at es j)) (flat_map (λ i. node_and_beneath most below beneath (part at es i)) js) (one_part most below beneath (part at es j) z is (deep j)) (later x.0 x.1)
 
   pub known_blocks : (h : List ℕ → List ℕ) (p : HamtShape) (left depth : ℕ) (es : List (List ℕ × Data)) (n : Data) → node_of h p left depth es ≡ Some n → AreKnown h p K left depth es → AllByRecursion P (nodes_beneath h p left depth es)
   unfolding nodes_beneath AreKnown node_of

@@ -1,21 +1,22 @@
 -- What the root of a HAMT splits into: its entries, with the blocks of the nodes beneath it.
-use Rattle.std.proofs.Common.{◌≡◌, ℕ, zero, suc, ◌+◌, ◌-◌, ◌^◌, ◌<◌, ◌≤◌, List, [], ◌∷◌, ◌++◌, length, length-append, cond, Bool, true, false, Option, Some, None, option_map, refl, sym, ◌∙◌, ap, subst, arith, inl}
+use Rattle.std.proofs.Common.{◌≡◌, ℕ, ◌+◌, ◌-◌, ◌≤◌, List, [], ◌∷◌, ◌++◌, length, length-append, cond, true, false, Option, Some, option_map, refl, sym, ◌∙◌, ap, subst, arith, inl}
 use Rattle.std.specs.Prelude.{is_some, option_and_then}
 use Rattle.std.specs.Option.{option_map_or}
 use Rattle.std.specs.List.{AllByRecursion}
-use Rattle.std.proofs.lemmas.Option.{same_Some, none-some}
+use Rattle.std.proofs.lemmas.Option.{same_Some}
+use Rattle.ild_schema.proofs.Parts.{pairs_list-pairs_of}
+use Rattle.ild_data.proofs.AllOf.{all_both, all_split, all_append}
 use Rattle.ild_data.specs.Data as T
 use Rattle.ild_data.specs.Data.{Data}
 use Rattle.ild_data.specs.ByteOrder.{in_byte_order}
 use Rattle.ild_data.specs.Key.{Rises}
 use Rattle.ild_data.specs.Limits.{IsWithin, deepest, longest_block}
-use Rattle.ild_data.specs.Spell.{spell, id_of}
+use Rattle.ild_data.specs.Spell.{spell}
 use Rattle.ild_data.specs.Tree.{IsTree}
 use Rattle.ild_data.specs.Trie.{trie}
 use Rattle.ild_data.specs.TrieBlocks.{nodes_beneath}
 use Rattle.ild_data.specs.TrieShape.{trie_levels}
 use Rattle.ild_data.specs.declared.hamt_shape.HamtShape.{HamtShape}
-use Rattle.ild_schema.specs.Clear.{IsClear}
 use Rattle.ild_schema.specs.Spelled.{IsSpelled}
 use Rattle.ild_schema.specs.declared.def.MapForm.TheVariants as MF
 use Rattle.ild_schema.specs.declared.def.TypeDef.{TypeDef}
@@ -23,7 +24,7 @@ use Rattle.ild_schema.specs.declared.def.TypeDef.TheVariants as D
 use Rattle.ild_schema.specs.declared.number.Slot.{Slot}
 use Rattle.ild_schema.specs.declared.number.TypeNo.{TypeNo}
 use Rattle.ild_schema.specs.declared.row.Row.{Row}
-use Rattle.ild_schema.specs.Slots.{form_of, plainly}
+use Rattle.ild_schema.specs.Slots.{form_of}
 use Rattle.ild_schema.specs.Value as V
 use Rattle.ild_schema.specs.Value.{Value, Pairs, pairs_of, pairs_list}
 use Rattle.ild_typed.specs.Blocks.{hamt_nodes, nodes, nodes_of_pairs}
@@ -31,31 +32,29 @@ use Rattle.ild_typed.specs.Composed.{Hamts, composed}
 use Rattle.ild_typed.specs.Fits.{Fits}
 use Rattle.ild_typed.specs.Hamt.{root_map, whole}
 use Rattle.ild_typed.specs.Known as G
-use Rattle.ild_typed.specs.Known.{AreKnown, HeldNode, Kept}
+use Rattle.ild_typed.specs.Known.{HeldNode, Kept}
 use Rattle.ild_typed.specs.Layer as L
 use Rattle.ild_typed.specs.Layer.{Layer, as_map}
 use Rattle.ild_typed.specs.Layers.{EntriesFit}
-use Rattle.ild_typed.specs.Nested.{BlockIn, TreeIn}
+use Rattle.ild_typed.specs.Nested.{BlockIn}
 use Rattle.ild_typed.specs.Pieces.{is_null_there}
 use Rattle.ild_typed.specs.Represented.{layered, represented, represented_pairs}
 use Rattle.ild_typed.specs.Slots.{element_of}
 use Rattle.ild_typed.proofs.Basics.{map_from, then_from}
 use Rattle.ild_typed.proofs.Entries.{both_from}
-use Rattle.ild_typed.proofs.Lists.{pairs_list-pairs_of}
 use Rattle.ild_typed.proofs.Onlies.{only_map}
 use Rattle.ild_typed.proofs.OneValue.{Way, as_null, as_layer, way_of, layer_data, map_in, map_value}
 use Rattle.ild_typed.proofs.PartData.{pairs_data}
 use Rattle.ild_typed.proofs.TreeBlocks.{blocks_nested}
 use Rattle.ild_typed.proofs.TreeKept.{kept_value}
-use Rattle.ild_typed.proofs.TreeNodes.{all_split}
 use Rattle.ild_typed.proofs.TreeParts.{rises_pairs}
-use Rattle.ild_typed.proofs.ViewMaps.{SameKeys, keys_like, map_fitted}
+use Rattle.ild_typed.proofs.ViewMaps.{keys_like, map_fitted}
 use Rattle.ild_typed.proofs.Wholes.{ids_tell, one_within, whole_exact}
 use Rattle.ild_open_held.specs.Held.{IsHeld, IsHeldBlock}
 use Rattle.ild_open_held.specs.Entries.{HamtsSplit, IsMapOf}
 use Rattle.ild_open_held.specs.Splits.{PartsHaveValues, entry_parts, entry_values, nodes_in}
 use Rattle.ild_open_held.proofs.Fitting.{fits_down, fits_up}
-use Rattle.ild_open_held.proofs.Parting.{EntryFits, KeyFits, all_join, pairs_back, pairs_up}
+use Rattle.ild_open_held.proofs.Parting.{EntryFits, KeyFits, pairs_back, pairs_up}
 
 -- the keys of the entries that values are, whatever stands for a HAMT
 keys_of : (hamts : Hamts) (rows : List Row) (less : ℕ) (key : TypeNo) (u : Slot) (ps : Pairs) (es : List (List ℕ × Data)) → AllByRecursion (EntryFits (λ b. Some b) (λ k. k) rows less key u) (pairs_list ps)
@@ -71,11 +70,7 @@ values_fit : (rows : List Row) (less : ℕ) (key : TypeNo) (value : Slot) (ps : 
 values_fit rows less key value [] all = tt
 values_fit rows less key value (p ∷ ps) all = (all.0.2, values_fit rows less key value ps all.1)
 
-all_both : {X : Type 0} (P Q : X → Type 0) (xs : List X) → AllByRecursion P xs → AllByRecursion Q xs → AllByRecursion (λ x. P x × Q x) xs
-all_both P Q [] a b = tt
-all_both P Q (x ∷ xs) a b = ((a.0, b.0), all_both P Q xs a.1 b.1)
-
-node_within : (n : Data) → IsTree n → (room : ℕ) → room ≤ deepest → BlockIn room (spell n) → (block : List ℕ → Option (List ℕ)) → IsHeldBlock block (spell n) → IsWithin n
+pub node_within : (n : Data) → IsTree n → (room : ℕ) → room ≤ deepest → BlockIn room (spell n) → (block : List ℕ → Option (List ℕ)) → IsHeldBlock block (spell n) → IsWithin n
 node_within n tree room le b block has =
     let own : IsWithin b.of = record { tree = b.fits.tree; nested = let x = b.fits.nested in omega (arith, x, le); sized = subst (λ (k : List ℕ). length k ≤ longest_block) b.is has.short } in
     subst IsWithin (one_within b.of n own tree (sym b.is)) own
@@ -109,7 +104,7 @@ module _ (block : List ℕ → Option (List ℕ)) (h : List ℕ → List ℕ) (p
         fits = fits_up rows room less s (V.map (pairs_of ps)) Own (L.map (pairs_list (pairs_of ps))) refl is (omega arith) left
             (inl (subst (EntriesFit (Fits rows less) rows key value (MF.Hamt p)) (sym (pairs_list-pairs_of ps)) fit));
         tree = ap (λ o. layered (whole h) o (option_map L.map (pairs_data (whole h) rows (element_of o) (pairs_of ps)))) is ∙ ap (λ o. option_and_then (composed (whole h) Own) (option_map L.map o)) x.there ∙ made;
-        held = subst (AllByRecursion Held) (sym (root_nodes (pairs_of ps) fs y.item x.there y.there)) (all_join Held (beneath fs) (nodes_of_pairs h rows value (pairs_of ps)) below x.held);
+        held = subst (AllByRecursion Held) (sym (root_nodes (pairs_of ps) fs y.item x.there y.there)) (all_append Held (beneath fs) (nodes_of_pairs h rows value (pairs_of ps)) below x.held);
       }
 
   -- and back

@@ -1,8 +1,9 @@
 -- Values of parts, and the lists of values that wholes have of them.
-use Rattle.std.proofs.Common.{◌≡◌, ℕ, ◌+◌, List, [], ◌∷◌, ◌++◌, length, length-append, Option, Some, None, option_map, IsUtf8, refl, sym, ◌∙◌, ap, subst}
+use Rattle.std.proofs.Common.{◌≡◌, ℕ, ◌+◌, List, [], ◌∷◌, length, length-append, Option, Some, None, option_map, IsUtf8, refl, ◌∙◌, ap, subst}
 use Rattle.std.specs.Prelude.{IsTrue}
 use Rattle.std.specs.List.{AllByRecursion}
-use Rattle.std.proofs.lemmas.Option.{same_Some, none-some}
+use Rattle.std.proofs.lemmas.Option.{same_Some}
+use Rattle.ild_data.proofs.AllOf.{all_append, all_split}
 use Rattle.ild_data.specs.Data as T
 use Rattle.ild_data.specs.Data.{Data}
 use Rattle.ild_schema.specs.declared.number.Slot.{Slot}
@@ -20,14 +21,9 @@ use Rattle.ild_typed.specs.Represented.{represented, represented_values, represe
 use Rattle.ild_typed.specs.Strings.{cons_both}
 use Rattle.ild_typed.proofs.Basics.{map_from}
 use Rattle.ild_typed.proofs.Entries.{both_from}
-use Rattle.ild_typed.proofs.TreeNodes.{all_split}
 use Rattle.ild_typed.proofs.ViewMaps.{SameKeys}
-use Rattle.ild_open_held.specs.Held.{IsHeld, IsHeldBlock}
+use Rattle.ild_open_held.specs.Held.{IsHeldBlock}
 use Rattle.ild_open_held.specs.Splits.{PartsHaveValues, element_parts, entry_parts, entry_values, field_parts, field_values, nodes_in}
-
-pub all_join : {X : Type 0} (P : X → Type 0) (xs ys : List X) → AllByRecursion P xs → AllByRecursion P ys → AllByRecursion P (xs ++ ys)
-all_join P [] ys a b = b
-all_join P (x ∷ xs) ys a b = (a.0, all_join P xs ys a.1 b)
 
 module _ (block : List ℕ → Option (List ℕ)) (h : List ℕ → List ℕ) (rows : List Row) (room : ℕ) where
   abbrev pub Held : List ℕ → Type 0
@@ -52,7 +48,7 @@ module _ (block : List ℕ → Option (List ℕ)) (h : List ℕ → List ℕ) (r
       record {
         fit = (all.0.fits, rest.fit);
         there = ap (λ o. cons_both o (represented_values (whole h) rows u (values_of vs))) all.0.tree ∙ ap (cons_both (Some d)) rest.there;
-        held = all_join Held (nodes h rows u v) (nodes_of_values h rows u (values_of vs)) all.0.held rest.held;
+        held = all_append Held (nodes h rows u v) (nodes_of_values h rows u (values_of vs)) all.0.held rest.held;
       }
 
   pub record ValuesBack (u : Slot) (ds : List Data) (vs : Values) : Type 0 where
@@ -95,7 +91,7 @@ module _ (block : List ℕ → Option (List ℕ)) (h : List ℕ → List ℕ) (r
         fit = ((keys.0.0, keys.0.1, all.0.fits), rest.fit);
         same = (refl, rest.same);
         there = ap (λ o. cons_both (option_map {U = List ℕ × Data} (λ c. (e.0, c)) o) (represented_pairs (whole h) rows u (pairs_of (entry_values es vs)))) all.0.tree ∙ ap (cons_both (Some e)) rest.there;
-        held = all_join Held (nodes h rows u v) (nodes_of_pairs h rows u (pairs_of (entry_values es vs))) all.0.held rest.held;
+        held = all_append Held (nodes h rows u v) (nodes_of_pairs h rows u (pairs_of (entry_values es vs))) all.0.held rest.held;
       }
 
   pub record PairsBack (u : Slot) (es : List (List ℕ × Data)) (ps : Pairs) : Type 0 where
@@ -147,7 +143,7 @@ module _ (block : List ℕ → Option (List ℕ)) (h : List ℕ → List ℕ) (r
       record {
         fit = (all.0.fits, rest.fit);
         there = ap (λ o. cons_both (option_map Some o) (represented_fields (whole h) rows fs (optionals_of (field_values os vs)))) all.0.tree ∙ ap (cons_both (Some (Some d))) rest.there;
-        held = all_join Held (nodes h rows f.slot v) (nodes_of_fields h rows fs (optionals_of (field_values os vs))) all.0.held rest.held;
+        held = all_append Held (nodes h rows f.slot v) (nodes_of_fields h rows fs (optionals_of (field_values os vs))) all.0.held rest.held;
       }
 
   pub record FieldsBack (fs : List Field) (os : List (Option Data)) (ws : Optionals) : Type 0 where

@@ -1,8 +1,9 @@
 -- Root blocks: the value that their data represent is the one that stands under their id.
-use Rattle.std.proofs.Common.{◌≡◌, ℕ, ◌+◌, ◌≤◌, List, [], ◌∷◌, ◌++◌, length, append-nil, Option, Some, refl, sym, ◌∙◌, ap, subst, arith}
+use Rattle.std.proofs.Common.{◌≡◌, ℕ, ◌+◌, ◌≤◌, List, [], ◌∷◌, length, append-nil, Option, Some, refl, sym, ap, subst, arith}
 use Rattle.std.specs.List.{AllByRecursion}
+use Rattle.ild_data.proofs.AllOf.{all_split}
 use Rattle.ild_data.specs.Data.{Data}
-use Rattle.ild_data.specs.Limits.{IsWithin, deepest, longest_block}
+use Rattle.ild_data.specs.Limits.{deepest, longest_block}
 use Rattle.ild_data.specs.Spell.{id_of, spell}
 use Rattle.ild_schema.specs.declared.number.TypeNo.{TypeNo}
 use Rattle.ild_schema.specs.declared.row.Row.{Row}
@@ -11,7 +12,6 @@ use Rattle.ild_schema.specs.Value.{Value}
 use Rattle.ild_typed.specs.Blocks.{nodes}
 use Rattle.ild_typed.specs.Stands.{Stands, bare, blocks_of}
 use Rattle.ild_typed.proofs.Rooms.{all_more}
-use Rattle.ild_typed.proofs.TreeNodes.{all_split}
 use Rattle.ild_open_held.specs.Held.{IsHeld, IsHeldBlock}
 use Rattle.ild_open_held.specs.Roots.{HeldStand, StandingAreHeld}
 

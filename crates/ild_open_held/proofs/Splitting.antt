@@ -1,9 +1,10 @@
 -- What data split into, by their form: lists, maps, structs and unions.
-use Rattle.std.proofs.Common.{◌≡◌, ℕ, ◌+◌, ◌≤◌, List, [], ◌∷◌, ◌++◌, length, Bool, true, false, Option, Some, None, option_map, refl, sym, ◌∙◌, ap, subst, arith}
+use Rattle.std.proofs.Common.{◌≡◌, ℕ, ◌+◌, ◌≤◌, List, [], ◌∷◌, ◌++◌, length, false, Option, Some, None, option_map, refl, sym, ◌∙◌, ap, subst, arith}
 use Rattle.std.specs.Prelude.{IsSomeAnd, option_and_then, slice_get}
 use Rattle.std.specs.Option.{option_map_or}
 use Rattle.std.specs.List.{AllByRecursion}
-use Rattle.std.proofs.lemmas.Option.{same_Some, none-some}
+use Rattle.std.proofs.lemmas.Option.{same_Some}
+use Rattle.ild_schema.proofs.Parts.{values_list-values_of, pairs_list-pairs_of, optionals_list-optionals_of}
 use Rattle.ild_data.specs.Data.{Data}
 use Rattle.ild_schema.proofs.Legibly.{legible}
 use Rattle.ild_schema.specs.Clear.{IsClear}
@@ -32,21 +33,19 @@ use Rattle.ild_typed.specs.Layer as L
 use Rattle.ild_typed.specs.Layer.{Layer}
 use Rattle.ild_typed.specs.Layers.{AreKeys, EntriesFit, FieldsFit, MapFits, RepresentsSome}
 use Rattle.ild_typed.specs.Levels.{map_levels, struct_levels}
-use Rattle.ild_typed.specs.Pieces.{is_null_there}
 use Rattle.ild_typed.specs.Represented.{layered, represented, represented_values, represented_pairs, represented_fields}
 use Rattle.ild_typed.specs.Slots.{element_of, fields_of, member_of, slot_of}
 use Rattle.ild_typed.proofs.Basics.{map_from}
 use Rattle.ild_typed.proofs.Entries.{both_from}
-use Rattle.ild_typed.proofs.Lists.{values_list-values_of, pairs_list-pairs_of, optionals_list-optionals_of}
 use Rattle.ild_typed.proofs.OneValue.{list_in, list_value, map_in, map_value, struct_in, struct_value, union_in, union_value}
 use Rattle.ild_typed.proofs.PartData.{values_data, pairs_data, member_data}
 use Rattle.ild_typed.proofs.ViewMaps.{SameKeys, keys_like, map_fitted}
 use Rattle.ild_typed.proofs.Views.{Fields, data_of_fields, elements_of_values}
 use Rattle.ild_open_held.specs.Held.{IsHeld, IsHeldBlock}
 use Rattle.ild_open_held.specs.Laws.{IsFronted, is_hamt, ListsSplit, MapsSplit, StructsSplit, UnionsSplit}
-use Rattle.ild_open_held.specs.Splits.{PartsHaveValues, HasFront, IsMadeOf, Splits, element_parts, entry_parts, entry_values, field_parts, field_values, nodes_in, union_of}
+use Rattle.ild_open_held.specs.Splits.{PartsHaveValues, HasFront, IsMadeOf, Splits, element_parts, entry_parts, entry_values, field_parts, field_values, union_of}
 use Rattle.ild_open_held.proofs.Fitting.{fits_down, fits_up, layer_back}
-use Rattle.ild_open_held.proofs.Parting.{EntryFits, FieldsBack, Held, KeyFits, PairsBack, Shape, fields_back, fields_up, pairs_back, pairs_up, values_back, values_up}
+use Rattle.ild_open_held.proofs.Parting.{EntryFits, KeyFits, Shape, fields_back, fields_up, pairs_back, pairs_up, values_back, values_up}
 
 values_of-values_list : (vs : Values) → values_of (values_list vs) ≡ vs
 values_of-values_list V.no_values = refl

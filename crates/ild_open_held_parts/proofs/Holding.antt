@@ -1,10 +1,9 @@
 -- Data represent one value at most that is held.
-use Rattle.std.proofs.Common.{◌≡◌, ℕ, ◌≤◌, List, [], ◌∷◌, length, Option, Some, subst, sym, arith}
-use Rattle.std.specs.List.{AllByRecursion}
+use Rattle.std.proofs.Common.{ℕ, ◌≤◌, List, Option}
+use Rattle.ild_open_held.proofs.Hamts.{node_within}
+use Rattle.ild_data.proofs.AllOf.{all_both}
 use Rattle.ild_data.specs.Data.{Data}
-use Rattle.ild_data.specs.Limits.{IsWithin, deepest, longest_block}
-use Rattle.ild_data.specs.Spell.{spell}
-use Rattle.ild_data.specs.Tree.{IsTree}
+use Rattle.ild_data.specs.Limits.{deepest}
 use Rattle.ild_open_held.specs.Held.{IsHeld, IsHeldBlock}
 use Rattle.ild_schema.proofs.Legibly.{legible}
 use Rattle.ild_schema.specs.declared.number.Slot.{Slot}
@@ -13,20 +12,11 @@ use Rattle.ild_schema.specs.Spelled.{IsSpelled}
 use Rattle.ild_schema.specs.Value.{Value}
 use Rattle.ild_typed.proofs.TreeBlocks.{blocks_nested}
 use Rattle.ild_typed.proofs.TreeKept.{kept_value}
-use Rattle.ild_typed.proofs.Wholes.{one_within, whole_law}
+use Rattle.ild_typed.proofs.Wholes.{whole_law}
 use Rattle.ild_typed.specs.Blocks.{nodes}
 use Rattle.ild_typed.specs.Known.{HeldNode, IsKept}
 use Rattle.ild_typed.specs.Nested.{BlockIn}
 use Rattle.ild_open_held_parts.specs.Laws.{OneIsHeld}
-
-all_both : {X : Type 0} (P Q : X → Type 0) (xs : List X) → AllByRecursion P xs → AllByRecursion Q xs → AllByRecursion (λ x. P x × Q x) xs
-all_both P Q [] a b = tt
-all_both P Q (x ∷ xs) a b = ((a.0, b.0), all_both P Q xs a.1 b.1)
-
-node_within : (n : Data) → IsTree n → (room : ℕ) → room ≤ deepest → BlockIn room (spell n) → (block : List ℕ → Option (List ℕ)) → IsHeldBlock block (spell n) → IsWithin n
-node_within n tree room le b block has =
-    let own : IsWithin b.of = record { tree = b.fits.tree; nested = let x = b.fits.nested in omega (arith, x, le); sized = subst (λ (k : List ℕ). length k ≤ longest_block) b.is has.short } in
-    subst IsWithin (one_within b.of n own tree (sym b.is)) own
 
 kept : (block : List ℕ → Option (List ℕ)) (h : List ℕ → List ℕ) (rows : List Row) → IsSpelled rows → (room : ℕ) → room ≤ deepest → (s : Slot) (t : Data) (v : Value) → IsHeld block h rows room s t v → IsKept h (HeldNode block) rows s v
 kept block h rows spelled room le s t v has =

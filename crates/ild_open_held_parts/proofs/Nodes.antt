@@ -4,12 +4,13 @@ use Rattle.std.specs.Prelude.{option_and_then}
 use Rattle.std.specs.List.{AllByRecursion}
 use Rattle.std.specs.Option.{option_map_or}
 use Rattle.std.proofs.lemmas.Option.{same_Some, none-some}
+use Rattle.ild_data.proofs.AllOf.{all_first, all_second}
 use Rattle.ild_data.specs.Data as D
 use Rattle.ild_data.specs.Data.{Data}
 use Rattle.ild_data.specs.Key.{same_text, value_at}
 use Rattle.ild_path_edits.proofs.HeldTyped.{with_slot, inside_any, indexed, held_is}
 use Rattle.ild_schema.specs.Prelude.{anything}
-use Rattle.ild_schema.specs.Slots.{form_of, plainly}
+use Rattle.ild_schema.specs.Slots.{form_of}
 use Rattle.ild_schema.specs.Value as V
 use Rattle.ild_schema.specs.Value.{Value, Values, Pairs, Optionals, values_list, pairs_list, optionals_list}
 use Rattle.ild_schema.specs.declared.def.Field.{Field}
@@ -18,21 +19,13 @@ use Rattle.ild_schema.specs.declared.def.TypeDef.{TypeDef}
 use Rattle.ild_schema.specs.declared.def.TypeDef.TheVariants as T
 use Rattle.ild_schema.specs.declared.number.Slot.{Slot}
 use Rattle.ild_schema.specs.declared.row.Row.{Row}
-use Rattle.ild_typed.specs.At.{InSlot, seen}
+use Rattle.ild_typed.specs.At.{InSlot}
 use Rattle.ild_typed.specs.Blocks.{hamt_nodes, nodes, nodes_of_values, nodes_of_pairs, nodes_of_fields}
 use Rattle.ild_typed.specs.Hamt.{whole}
-use Rattle.ild_typed.specs.Holder.{any_holder, holder_of, list_holder, map_holder, of_any, struct_holder, union_holder}
+use Rattle.ild_typed.specs.Holder.{holder_of, list_holder, map_holder, of_any, struct_holder, union_holder}
 use Rattle.ild_typed.specs.Represented.{represented_pairs}
 use Rattle.ild_typed.specs.Segment.{field_at, held_as, index_of, part}
 use Rattle.ild_typed.specs.Slots.{element_of, fields_of, member_of, slot_of}
-
-all_front : {X : Type 0} (P : X → Type 0) (xs ys : List X) → AllByRecursion P (xs ++ ys) → AllByRecursion P xs
-all_front P [] ys all = tt
-all_front P (x ∷ xs) ys all = (all.0, all_front P xs ys all.1)
-
-all_back : {X : Type 0} (P : X → Type 0) (xs ys : List X) → AllByRecursion P (xs ++ ys) → AllByRecursion P ys
-all_back P [] ys all = all
-all_back P (x ∷ xs) ys all = all_back P xs ys all.1
 
 module _ (P : List ℕ → Type 0) (h : List ℕ → List ℕ) (rows : List Row) where
   abbrev All : InSlot → Type 0
@@ -40,14 +33,14 @@ module _ (P : List ℕ → Type 0) (h : List ℕ → List ℕ) (rows : List Row)
 
   element_nodes : (u : Slot) (vs : Values) (i : ℕ) (w : Value) → AllByRecursion P (nodes_of_values h rows u vs) → slice_get (values_list vs) i ≡ Some w → All (u, w)
   element_nodes u V.no_values i w all e = absurd (none-some w e)
-  element_nodes u (V.value v vs) zero w all e = subst (λ x. All (u, x)) (same_Some v w e) (all_front P (nodes h rows u v) (nodes_of_values h rows u vs) all)
-  element_nodes u (V.value v vs) (suc i) w all e = element_nodes u vs i w (all_back P (nodes h rows u v) (nodes_of_values h rows u vs) all) e
+  element_nodes u (V.value v vs) zero w all e = subst (λ x. All (u, x)) (same_Some v w e) (all_first P (nodes h rows u v) (nodes_of_values h rows u vs) all)
+  element_nodes u (V.value v vs) (suc i) w all e = element_nodes u vs i w (all_second P (nodes h rows u v) (nodes_of_values h rows u vs) all) e
 
   entry_nodes : (u : Slot) (ps : Pairs) (k : List ℕ) (w : Value) → AllByRecursion P (nodes_of_pairs h rows u ps) → value_at k (pairs_list ps) ≡ Some w → All (u, w)
   entry_nodes u V.no_pairs k w all e = absurd (none-some w e)
-  entry_nodes u (V.pair l v ps) k w all e = by (same_text k l) e (entry_nodes u ps k w (all_back P (nodes h rows u v) (nodes_of_pairs h rows u ps) all)) where
+  entry_nodes u (V.pair l v ps) k w all e = by (same_text k l) e (entry_nodes u ps k w (all_second P (nodes h rows u v) (nodes_of_pairs h rows u ps) all)) where
     by : (b : Bool) → cond b (Some v) (value_at k (pairs_list ps)) ≡ Some w → (value_at k (pairs_list ps) ≡ Some w → All (u, w)) → All (u, w)
-    by true here later = subst (λ x. All (u, x)) (same_Some v w here) (all_front P (nodes h rows u v) (nodes_of_pairs h rows u ps) all)
+    by true here later = subst (λ x. All (u, x)) (same_Some v w here) (all_first P (nodes h rows u v) (nodes_of_pairs h rows u ps) all)
     by false here later = later here
 
   field_nodes : (k : List ℕ) (fs : List Field) (os : Optionals) (q : InSlot) → AllByRecursion P (nodes_of_fields h rows fs os) → field_at k fs (optionals_list os) ≡ Some q → All q
@@ -59,9 +52,9 @@ module _ (P : List ℕ → Type 0) (h : List ℕ → List ℕ) (rows : List Row)
     by : (b : Bool) → cond b None (field_at k fs (optionals_list os)) ≡ Some q → (field_at k fs (optionals_list os) ≡ Some q → All q) → All q
     by true here later = absurd (none-some q here)
     by false here later = later here
-  field_nodes k (f ∷ fs) (V.present v os) q all e = by (same_text k f.name) e (field_nodes k fs os q (all_back P (nodes h rows f.slot v) (nodes_of_fields h rows fs os) all)) where
+  field_nodes k (f ∷ fs) (V.present v os) q all e = by (same_text k f.name) e (field_nodes k fs os q (all_second P (nodes h rows f.slot v) (nodes_of_fields h rows fs os) all)) where
     by : (b : Bool) → cond b (Some (f.slot, v)) (field_at k fs (optionals_list os)) ≡ Some q → (field_at k fs (optionals_list os) ≡ Some q → All q) → All q
-    by true here later = subst All (same_Some (f.slot, v) q here) (all_front P (nodes h rows f.slot v) (nodes_of_fields h rows fs os) all)
+    by true here later = subst All (same_Some (f.slot, v) q here) (all_first P (nodes h rows f.slot v) (nodes_of_fields h rows fs os) all)
     by false here later = later here
 
   list_nodes : (o : Option TypeDef) (vs : Values) (k : List ℕ) (q : InSlot) → part (list_holder o vs) k ≡ Some q → AllByRecursion P (option_map_or (λ u. nodes_of_values h rows u vs) (element_of o) []) → All q
@@ -76,7 +69,7 @@ module _ (P : List ℕ → Type 0) (h : List ℕ → List ℕ) (rows : List Row)
   map_nodes (Some (T.Map key key_at value at form)) ps k q e all =
       let y = with_slot value (value_at k (pairs_list ps)) q e in
       subst All y.2
-      (entry_nodes value ps k y.0 (all_back P (hamt_nodes h (Some (T.Map key key_at value at form)) (represented_pairs (whole h) rows value ps)) (nodes_of_pairs h rows value ps) all) y.1)
+      (entry_nodes value ps k y.0 (all_second P (hamt_nodes h (Some (T.Map key key_at value at form)) (represented_pairs (whole h) rows value ps)) (nodes_of_pairs h rows value ps) all) y.1)
   map_nodes o ps k q e all = absurd (none-some q e)
 
   struct_nodes : (o : Option TypeDef) (os : Optionals) (k : List ℕ) (q : InSlot) → part (struct_holder o os) k ≡ Some q → AllByRecursion P (nodes_of_fields h rows (fields_of o) os) → All q

@@ -7,6 +7,7 @@ use Rattle.std.specs.Option.{option_map_or}
 use Rattle.std.specs.Ordering.{eq_by_cmp}
 use Rattle.std.specs.Cmp.Lexicographic.{same_text as text_same, other_text}
 use Rattle.std.proofs.lemmas.Option.{none-some, same_Some}
+use Rattle.ild_schema.proofs.Parts.{pairs_list-pairs_of}
 use Rattle.ild_data.specs.ByteOrder.{IsInOrder, bytewise, in_byte_order}
 use Rattle.ild_data.specs.Data as D
 use Rattle.ild_data.specs.Data.{Data}
@@ -34,7 +35,6 @@ use Rattle.ild_hamt_trie.proofs.Bits.{same_node}
 use Rattle.ild_hamt_trie.proofs.Node.{slots-node, trie-sorted}
 use Rattle.ild_hamt_trie.proofs.Parts.{find-sorted, in_order-sorted, key_itself, same_key}
 use Rattle.ild_typed.proofs.Basics.{if_from, map_from}
-use Rattle.ild_typed.proofs.Lists.{pairs_list-pairs_of}
 use Rattle.ild_typed.proofs.Rooms.{fits_more}
 use Rattle.ild_typed.specs.At.{InSlot}
 use Rattle.ild_typed.specs.Fits.{Fits, FitsPast, FormFits}
@@ -64,7 +64,7 @@ hamt_type (Some (T.Map key key_at value place (MF.StringPairs i d))) e = absurd 
 hamt_type o e = absurd cc
 
 -- a root alone has no entries to be represented by
-no_root : (h : List ℕ → List ℕ) (o : Option TypeDef) (d t : Data) → layered (whole h) o (Some (L.hamt d)) ≡ Some t → ⊥
+pub no_root : (h : List ℕ → List ℕ) (o : Option TypeDef) (d t : Data) → layered (whole h) o (Some (L.hamt d)) ≡ Some t → ⊥
 no_root h (Some (T.Map key key_at value place MF.Map)) d t e = none-some t e
 no_root h (Some (T.Map key key_at value place MF.ListPairs)) d t e = none-some t e
 no_root h (Some (T.Map key key_at value place (MF.StringPairs i x))) d t e = none-some t e

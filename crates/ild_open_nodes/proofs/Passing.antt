@@ -1,12 +1,12 @@
 -- Going over the things of a list, one after another: what is answered of all, by what is answered of each.
-use Rattle.std.proofs.Common.{◌≡◌, ◌⊎◌, inl, inr, ⊎_elim, ℕ, zero, suc, ◌+◌, ◌<◌, ◌≤◌, List, [], ◌∷◌, length, drop, get_or, Option, Some, None, refl, sym, ◌∙◌, ap, subst, arith}
+use Rattle.std.proofs.Common.{◌≡◌, ◌⊎◌, inl, inr, ⊎_elim, ℕ, zero, suc, ◌+◌, ◌<◌, ◌≤◌, List, [], ◌∷◌, length, drop, get_or, Some, refl, sym, ◌∙◌, ap, subst, arith}
 use Rattle.std.specs.Prelude.{Result, Ok, Err, slice_get}
 use Rattle.std.proofs.lemmas.Option.{none-some, same_Some}
+use Rattle.ild_data.proofs.Gets.{drop_at, got_below}
 use Rattle.ild_cbor.specs.declared.why.BlockWhy.{BlockWhy}
 use Rattle.ild_edges.specs.Gained.{FromBlocks, OnlyReads}
 use Rattle.ild_edges.specs.Store.{Moment}
 use Rattle.ild_edges.proofs.Reading.{from_both, from_later, from_more, from_nothing, reads_none, reads_then}
-use Rattle.ild_open_parts.specs.Reads.{Stops}
 use Rattle.ild_open_parts.specs.declared.fault.OpenFault.{OpenFault}
 use Rattle.ild_open_parts.specs.declared.fault.OpenFault.TheVariants as F
 use Rattle.ild_open_parts.proofs.Turning.{stops_later}
@@ -15,18 +15,6 @@ use Rattle.ild_open_nodes.specs.Sums.{EachOwned, SumsTo}
 
 -- ---- lists
 
-drop_next : {A : Type 0} (xs : List A) (i : ℕ) (x : A) → slice_get xs i ≡ Some x → drop i xs ≡ x ∷ drop (suc i) xs
-drop_next [] zero x is = absurd (none-some x is)
-drop_next [] (suc i) x is = absurd (none-some x is)
-drop_next (y ∷ xs) zero x is = ap (λ z. z ∷ xs) (same_Some y x is)
-drop_next (y ∷ xs) (suc i) x is = drop_next xs i x is
-
-next_is : (i : ℕ) → suc i ≡ i + 1
-next_is i = omega arith
-
-pub drop_at : {A : Type 0} (xs : List A) (i : ℕ) (x : A) → slice_get xs i ≡ Some x → drop i xs ≡ x ∷ drop (i + 1) xs
-drop_at xs i x is = drop_next xs i x is ∙ ap (λ k. x ∷ drop k xs) (next_is i)
-
 -- what stands at a place
 pub found_at : {A : Type 0} (xs : List A) (i : ℕ) (x d : A) → slice_get xs i ≡ Some x → get_or xs i d ≡ x
 found_at [] zero x d is = absurd (none-some x is)
@@ -34,22 +22,11 @@ found_at [] (suc i) x d is = absurd (none-some x is)
 found_at (y ∷ xs) zero x d is = same_Some y x is
 found_at (y ∷ xs) (suc i) x d is = found_at xs i x d is
 
-pub there_at : {A : Type 0} (xs : List A) (i : ℕ) → i < length xs → (x : A) × (slice_get xs i ≡ Some x)
-there_at [] i less = absurd (omega (arith, less))
-there_at (y ∷ xs) zero less = (y, refl)
-there_at (y ∷ xs) (suc i) less = there_at xs i (omega (arith, less))
-
 before : (j i : ℕ) → j < i + 1 → (j < i) ⊎ (j ≡ i)
 before zero zero lt = inr refl
 before zero (suc i) lt = inl (omega arith)
 before (suc j) zero lt = absurd (omega (arith, lt))
 before (suc j) (suc i) lt = ⊎_elim (λ less. inl (omega (arith, less))) (λ same. inr (ap suc same)) (before j i (omega (arith, lt)))
-
-pub within : {A : Type 0} (xs : List A) (j : ℕ) (x : A) → slice_get xs j ≡ Some x → j < length xs
-within [] zero x is = absurd (none-some x is)
-within [] (suc j) x is = absurd (none-some x is)
-within (y ∷ xs) zero x is = omega arith
-within (y ∷ xs) (suc j) x is = let less = within xs j x is in omega (arith, less)
 
 -- ---- one thing alone
 
@@ -145,7 +122,7 @@ module _ {A : Type 0} (O : List (List ℕ) → ℕ → A → Type 0) (G : List (
 
     pub passing_ends : length xs ≤ i → Passes (λ held. EachOwned (O held) xs) (λ held cost. SumsTo (G held) 0 xs cost) Broken m (Ok tt) n
     passing_ends most = record {
-      answer = from_more n (λ held. (j : ℕ) (x : A) → j < i → slice_get xs j ≡ Some x → O held j x) (λ held. EachOwned (O held) xs) (λ held all. record { at = λ j x is. all j x (let less = within xs j x is in omega (arith, less, most)) is }) p.owned;
+      answer = from_more n (λ held. (j : ℕ) (x : A) → j < i → slice_get xs j ≡ Some x → O held j x) (λ held. EachOwned (O held) xs) (λ held all. record { at = λ j x is. all j x (let less = got_below xs j x is in omega (arith, less, most)) is }) p.owned;
       only = p.only;
       gets = λ held cost told g. let l = p.left held cost told g in let one = l.gets in omega (arith, one);
     }

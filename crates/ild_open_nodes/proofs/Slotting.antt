@@ -1,17 +1,16 @@
 -- What is answered of a slot of a node: it is empty, a bucket, or a child.
-use Rattle.std.proofs.Common.{◌≡◌, ◌⊎◌, inl, inr, ℕ, zero, suc, ◌+◌, ◌-◌, ◌<◌, ◌≤◌, List, [], ◌∷◌, ◌++◌, length, Option, Some, refl, sym, ◌∙◌, ap, subst, arith}
+use Rattle.std.proofs.Common.{◌≡◌, inl, inr, ℕ, suc, ◌-◌, ◌≤◌, List, [], length, Option, Some, refl, sym, ◌∙◌, ap, subst, arith}
 use Rattle.std.specs.Prelude.{Result, Ok, Err, reverse, slice_get}
-use Rattle.std.specs.List.{AllByRecursion}
 use Rattle.std.proofs.lemmas.List.{length-reverse}
 use Rattle.ild_cbor.specs.declared.why.BlockWhy.{BlockWhy}
 use Rattle.ild_cbor.specs.declared.why.BlockWhy.TheVariants as B
 use Rattle.ild_cbor.specs.declared.why.Why.TheVariants as W
+use Rattle.ild_data.proofs.AllOf.{all_indexed}
 use Rattle.ild_data.specs.Data.{Data}
 use Rattle.ild_data.specs.Trie.{TrieSlot, empty, bucket, child}
 use Rattle.ild_data.specs.TrieShape.{trie_levels}
 use Rattle.ild_data.specs.declared.hamt_shape.HamtShape.{HamtShape}
 use Rattle.ild_data.specs.declared.id.BlockId.{BlockId}
-use Rattle.ild_edges.specs.Count.{Rose}
 use Rattle.ild_edges.specs.Gained.{OnlyReads}
 use Rattle.ild_edges.specs.Store.{Moment}
 use Rattle.ild_edges.proofs.Reading.{from_nothing, reads_none}
@@ -22,17 +21,16 @@ use Rattle.ild_bulk_walker.specs.Gives.{TreeGives}
 use Rattle.ild_bulk_walker.specs.OnTree.{HasNode, IsOnTree, IsWrong}
 use Rattle.ild_bulk_walker.specs.Standing.{IsWrongOnTree}
 use Rattle.ild_open_parts.specs.Broken.{HasBrokenBlock, IsWrongBelow, IsWrongEntry}
-use Rattle.ild_open_parts.specs.Reads.{BrokenPart}
 use Rattle.ild_open_parts.specs.Sites.{Site}
 use Rattle.ild_open_parts.specs.declared.fault.OpenFault.{OpenFault}
 use Rattle.ild_open_parts.specs.declared.fault.OpenFault.TheVariants as F
 use Rattle.ild_open_parts.proofs.Breaking.{broken_earlier, rose_later}
-use Rattle.ild_open_nodes.specs.inside.Beneath.{BrokenAt, BrokenIn, BrokenOn, HangsOn, PassesChild, PassesEntry, PassesSlot, StandsOn, site}
+use Rattle.ild_open_nodes.specs.inside.Beneath.{BrokenAt, BrokenIn, BrokenOn, HangsOn, PassesChild, PassesSlot, StandsOn, site}
 use Rattle.ild_open_nodes.specs.Nodes.{EntryGiven, EntryOwned, SlotGiven, SlotOwned}
 use Rattle.ild_open_nodes.specs.inside.Passes.{Passes}
 use Rattle.ild_open_nodes.specs.Sums.{EachOwned, SumsTo}
-use Rattle.ild_open_nodes.proofs.Passing.{Passing, passes_as, passing_ends}
-use Rattle.ild_open_nodes.proofs.Splitting.{all_at, sums_more}
+use Rattle.ild_open_nodes.proofs.Passing.{passes_as}
+use Rattle.ild_open_nodes.proofs.Splitting.{sums_more}
 
 -- ---- from an earlier moment on
 
@@ -90,7 +88,7 @@ module _ (h : List ℕ → List ℕ) (p : HamtShape) (rows : List Row) (room : �
     bucket_passes m n r x =
         passes_as (λ held. EachOwned (Owned held) es) (λ held. SlotOwned h p rows room key u held way i (bucket es)) (λ held cost. SumsTo (Given held) 0 es cost) (λ held cost. SlotGiven h p rows room key u held way i (bucket es) cost)
         (BrokenIn h p rows room key u way at slots) (BrokenIn h p rows room key u way at slots) m n r
-        (λ held o. record { entries = es; gives = refl; each = all_at (EntryOwned h p rows room key u held way i) es o.at })
+        (λ held o. record { entries = es; gives = refl; each = all_indexed (EntryOwned h p rows room key u held way i) es o.at })
         (λ held cost g. let sum = g.sum in sums_more (Given held) 0 es g.spent cost (omega (arith, sum)) (subst (λ xs. SumsTo (Given held) 0 xs g.spent) g.gives g.each)) (λ id why w. w) x
 
   -- ---- a child

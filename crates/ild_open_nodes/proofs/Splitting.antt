@@ -1,8 +1,9 @@
 -- The entries beneath a node, slot by slot: those of all slots, and what each of them asks for.
-use Rattle.std.proofs.Common.{◌≡◌, ℕ, zero, suc, ◌+◌, ◌-◌, ◌≤◌, ◌==◌, ◌&&◌, Bool, true, List, [], ◌∷◌, ◌++◌, length, Some, refl, sym, ◌∙◌, ap, subst, arith}
+use Rattle.std.proofs.Common.{◌≡◌, ℕ, suc, ◌+◌, ◌-◌, ◌≤◌, ◌==◌, true, List, [], ◌∷◌, ◌++◌, length, Some, refl, subst, arith}
 use Rattle.std.specs.Prelude.{slice_get}
 use Rattle.std.specs.List.{AllByRecursion}
 use Rattle.std.proofs.lemmas.Bool.{and_from, and_parts, eq-eqb, eqb-true}
+use Rattle.ild_data.proofs.AllOf.{all_append}
 use Rattle.ild_data.specs.Data.{Data}
 use Rattle.ild_data.specs.Trie.{TrieSlot, at_depth}
 use Rattle.ild_data.specs.TrieShape.{index, trie_levels}
@@ -16,8 +17,7 @@ use Rattle.ild_schema.specs.declared.row.Row.{Row}
 use Rattle.ild_typed.specs.Blocks.{nodes}
 use Rattle.ild_bulk_walker.specs.Gives.{AtIndex, SlotsGive, TreeGives}
 use Rattle.ild_bulk_walker.specs.Reads.{SlotsNodes, TreeNodes}
-use Rattle.ild_bulk_walker.specs.Todo.{agrees, fits}
-use Rattle.ild_bulk_walker.proofs.Opening.{all-join}
+use Rattle.ild_bulk_walker.specs.Todo.{agrees}
 use Rattle.ild_open_held.specs.Entries.{KeyFits}
 use Rattle.ild_open_held.specs.Held.{IsHeld}
 use Rattle.ild_open_nodes.specs.Nodes.{EntryGiven, EntryOwned, SlotGiven, SlotOwned}
@@ -61,11 +61,6 @@ pub all_each : {A : Type 0} (P Q : A → Type 0) (xs : List A) → ((x : A) → 
 all_each P Q [] step all = tt
 all_each P Q (x ∷ xs) step all = (step x all.0, all_each P Q xs step all.1)
 
--- of each at its number, by recursion
-pub all_at : {A : Type 0} (P : A → Type 0) (xs : List A) → ((i : ℕ) (x : A) → slice_get xs i ≡ Some x → P x) → AllByRecursion P xs
-all_at P [] each = tt
-all_at P (x ∷ xs) each = (each 0 x refl, all_at P xs (λ i y is. each (suc i) y is))
-
 module _ (h : List ℕ → List ℕ) (p : HamtShape) (rows : List Row) (room : ℕ) (key : TypeNo) (u : Slot) (held : List (List ℕ)) (way : List ℕ) where
   -- an entry beneath a node has the indices of its way; its key fits, and a value of it is held
   pub record EntryAlong (e : List ℕ × Data) : Type 0 where
@@ -107,7 +102,7 @@ module _ (h : List ℕ → List ℕ) (p : HamtShape) (rows : List Row) (room : �
       record {
         entries = own.entries ++ r.entries;
         gives = (own.entries, r.entries, refl, index_of j own.entries own.each, own.gives, r.gives);
-        each = all-join EntryAlong own.entries r.entries (all_each (EntryOwned h p rows room key u held way j) EntryAlong own.entries (along_of j) own.each) r.each;
+        each = all_append EntryAlong own.entries r.entries (all_each (EntryOwned h p rows room key u held way j) EntryAlong own.entries (along_of j) own.each) r.each;
       }
 
   -- ---- what each slot asks for

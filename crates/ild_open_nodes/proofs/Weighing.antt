@@ -1,10 +1,10 @@
 -- Weighing the slots of a node, one after another.
-use Rattle.std.proofs.Common.{◌≡◌, ℕ, zero, suc, ◌+◌, ◌-◌, ◌<◌, ◌≤◌, List, [], ◌∷◌, length, drop, Some, refl, sym, ◌∙◌, ap, arith}
+use Rattle.std.proofs.Common.{◌≡◌, ℕ, zero, suc, ◌+◌, ◌-◌, ◌<◌, ◌≤◌, List, length, drop, Some, refl, ap, arith}
 use Rattle.std.specs.Prelude.{slice_get}
+use Rattle.ild_data.proofs.Gets.{drop_past, drop_at}
 use Rattle.ild_data.specs.Trie.{TrieSlot}
 use Rattle.ild_data.specs.declared.hamt_shape.HamtShape.{HamtShape}
 use Rattle.ild_open_nodes.specs.Weights.{weight, weights}
-use Rattle.ild_open_nodes.proofs.Passing.{drop_at}
 
 -- what is left of a number when the weights of the slots that are left are taken away
 pub record Weighs (p : HamtShape) (slots : List TrieSlot) (i left : ℕ) : Type 0 where
@@ -20,12 +20,6 @@ weighs_more p slots i left more own s is weigh less x = record {
       let was = x.same in
       omega (arith, sum, was, weigh, less);
 }
-
-drop_past : {A : Type 0} (xs : List A) (i : ℕ) → length xs ≤ i → drop i xs ≡ []
-drop_past [] zero most = refl
-drop_past [] (suc i) most = refl
-drop_past (x ∷ xs) zero most = absurd (omega (arith, most))
-drop_past (x ∷ xs) (suc i) most = drop_past xs i (omega (arith, most))
 
 weighs_end : (p : HamtShape) (slots : List TrieSlot) (i left : ℕ) → length slots ≤ i → Weighs p slots i left → left ≡ (p.bucket + 1) - weights p slots
 weighs_end p slots i left most x = let none : weights p (drop i slots) ≡ 0 = ap (weights p) (drop_past slots i most) in let same = x.same in omega (arith, none, same)

@@ -1,6 +1,7 @@
 -- The parts of each form are parts of the data of its type.
 use Rattle.std.proofs.Common.{◌≡◌, ℕ, zero, suc, ◌+◌, ◌<◌, List, [], ◌∷◌, ◌++◌, length, get_or, slice_get, Option, Some, None, Contains, refl, sym, ap, arith}
 use Rattle.std.proofs.lemmas.List.Elements.{Contains-append_right}
+use Rattle.ild_data.proofs.AllOf.{contains_first, contains_more}
 use Rattle.ild_data.specs.Data.{Data}
 use Rattle.ild_schema.specs.Slots.{form_of, plainly}
 use Rattle.ild_schema.specs.declared.def.Field.{Field}
@@ -19,12 +20,6 @@ use Rattle.ild_typed.specs.Levels.{map_levels, struct_levels}
 use Rattle.ild_open_held.specs.Splits.{Part, element_parts, entry_parts, field_parts}
 use Rattle.ild_open_parts.proofs.Breaking.{AreParts}
 
-contains_first : {X : Type 0} (x : X) (xs : List X) → Contains (x ∷ xs) x
-contains_first x xs = (zero, omega arith, refl)
-
-contains_next : {X : Type 0} (y : X) (xs : List X) (x : X) → Contains xs x → Contains (y ∷ xs) x
-contains_next y xs x c = Contains-append_right (y ∷ []) xs x c
-
 pub contains_middle : {X : Type 0} (xs ys : List X) (x : X) → Contains (xs ++ x ∷ ys) x
 contains_middle xs ys x = Contains-append_right xs (x ∷ ys) x (contains_first x ys)
 
@@ -33,12 +28,12 @@ contains_middle xs ys x = Contains-append_right xs (x ∷ ys) x (contains_first 
 element_at : (elem : Slot) (ds : List Data) (k : ℕ) (p : Part) → k < length (element_parts elem ds) → get_or (element_parts elem ds) k p ≡ p → (p.0 ≡ elem) × Contains ds p.1
 element_at elem [] k p lt e = absurd (omega (arith, lt))
 element_at elem (d ∷ ds) zero p lt e = (sym (ap (λ (q : Part). q.0) e), (zero, omega arith, ap (λ (q : Part). q.1) e))
-element_at elem (d ∷ ds) (suc k) p lt e = let r = element_at elem ds k p (omega (arith, lt)) e in (r.0, contains_next d ds p.1 r.1)
+element_at elem (d ∷ ds) (suc k) p lt e = let r = element_at elem ds k p (omega (arith, lt)) e in (r.0, contains_more d ds p.1 r.1)
 
 entry_at : (u : Slot) (es : List (List ℕ × Data)) (k : ℕ) (p : Part) → k < length (entry_parts u es) → get_or (entry_parts u es) k p ≡ p → (p.0 ≡ u) × (key : List ℕ) × Contains es (key, p.1)
 entry_at u [] k p lt e = absurd (omega (arith, lt))
 entry_at u (f ∷ es) zero p lt e = (sym (ap (λ (q : Part). q.0) e), f.0, (zero, omega arith, ap (λ (q : Part). (f.0, q.1)) e))
-entry_at u (f ∷ es) (suc k) p lt e = let r = entry_at u es k p (omega (arith, lt)) e in (r.0, r.1, contains_next f es (r.1, p.1) r.2)
+entry_at u (f ∷ es) (suc k) p lt e = let r = entry_at u es k p (omega (arith, lt)) e in (r.0, r.1, contains_more f es (r.1, p.1) r.2)
 
 record IsField (fs : List Field) (os : List (Option Data)) (p : Part) : Type 0 where
   place : ℕ

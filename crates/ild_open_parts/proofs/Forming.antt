@@ -2,6 +2,7 @@
 use Rattle.std.proofs.Common.{◌≡◌, ℕ, List, [], ◌∷◌, ◌++◌, length, true, false, Option, Some, None, refl, sym, ◌∙◌, ap, arith}
 use Rattle.std.specs.Prelude.{slice_get}
 use Rattle.std.proofs.lemmas.Option.{none-some, same_Some}
+use Rattle.std.proofs.lemmas.Bool.{and_parts}
 use Rattle.ild_data.specs.Data as T
 use Rattle.ild_data.specs.Data.{Data}
 use Rattle.ild_schema.proofs.Legibly.{legible}
@@ -28,7 +29,7 @@ use Rattle.ild_typed.specs.Layer.{Layer, as_list, as_map, as_struct, as_union}
 use Rattle.ild_typed.specs.Pieces.{is_null_there}
 use Rattle.ild_typed.specs.Schema.{IsSchema}
 use Rattle.ild_typed.specs.Strings.{in_key_order, listpairs, map_data, stringjoin, stringpairs}
-use Rattle.ild_typed.proofs.Basics.{both_true, map_from, then_from, true_from, if_from}
+use Rattle.ild_typed.proofs.Basics.{map_from, then_from, true_from, if_from}
 use Rattle.ild_typed.proofs.Composing.{alone_tells, composed_tells}
 use Rattle.ild_typed.proofs.OneValue.{Way, as_null, as_layer, way_of}
 use Rattle.ild_open_held.specs.Laws.{IsFronted, is_hamt}
@@ -109,7 +110,7 @@ absent_many [] [] e = refl
 absent_many [] (o ∷ os) e = absurd cc
 absent_many (f ∷ fs) [] e = absurd cc
 absent_many (f ∷ fs) (Some d ∷ os) e = absurd cc
-absent_many (f ∷ fs) (None ∷ os) e = let x = both_true f.optional (are_absent fs os) e in let r = absent_many fs os x.1 in omega (arith, r)
+absent_many (f ∷ fs) (None ∷ os) e = let x = and_parts f.optional (are_absent fs os) e in let r = absent_many fs os x.1 in omega (arith, r)
 
 tuple_many : (fs : List Field) (os : List (Option Data)) (ds : List Data) → tuple_items fs os ≡ Some ds → length fs ≡ length os
 tuple_many [] [] ds e = refl

@@ -99,7 +99,7 @@ same_entries (e ∷ es) (f ∷ fs) within trees same =
 
 -- ---- the whole
 
-key_texts : (rows : List Row) (room : ℕ) (key : TypeNo) (es : List (List ℕ × Data)) → AllByRecursion (KeyFits rows room key) es → AreTexts es
+pub key_texts : (rows : List Row) (room : ℕ) (key : TypeNo) (es : List (List ℕ × Data)) → AllByRecursion (KeyFits rows room key) es → AreTexts es
 key_texts rows room key [] all = tt
 key_texts rows room key (e ∷ es) all = (all.0.0, key_texts rows room key es all.1)
 

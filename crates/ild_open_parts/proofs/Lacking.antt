@@ -26,12 +26,6 @@ use Rattle.ild_open_parts.proofs.Turning.{memory_wants}
 
 -- ---- pieces
 
-pub free_numbered : (rows : List Row) (p : Piece) → passes_over p ≡ false → IsNumbered rows p
-free_numbered rows (C.Node n) e = tt
-free_numbered rows (C.Text s) e = tt
-free_numbered rows (C.Bytes s) e = tt
-free_numbered rows (C.Inline n u) e = absurd cc
-
 pub free_inlined : (rows : List Row) (s : Slot) (p : Piece) → passes_over p ≡ false → IsInlined rows s p
 free_inlined rows s p e over = let x : false ≡ true = sym e ∙ over in absurd cc
 

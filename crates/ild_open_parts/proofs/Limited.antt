@@ -6,6 +6,7 @@ use Rattle.ild_bulk_walker.specs.OnTree.{HasNode}
 use Rattle.ild_bulk_walker.specs.Standing.{StandsThere}
 use Rattle.ild_bulk_walker.specs.declared.row.Row.{Row as Listed}
 use Rattle.ild_cbor.proofs.Insides.{part_within}
+use Rattle.ild_data.proofs.AllOf.{all_at}
 use Rattle.ild_data.proofs.Lists.{items_list-items_of}
 use Rattle.ild_data.specs.Data as T
 use Rattle.ild_data.specs.Data.{Data, Items, Members, bytes, depth, item, items_depth, items_list, items_of, list, member, members_list, no_items}
@@ -14,7 +15,6 @@ use Rattle.ild_data.specs.Spell.{head, spell, spell_items, spell_members, spell_
 use Rattle.ild_data.specs.Tree.{AreTrees}
 use Rattle.ild_data.specs.Trie.{TrieSlot, empty, bucket, child, bucket_entries, elements_of, entry_data, map_of, node_data}
 use Rattle.ild_data.specs.declared.hamt_shape.HamtShape.{HamtShape}
-use Rattle.ild_layer_fields.proofs.Placing.{all_at}
 use Rattle.ild_typed.specs.Hamt.{root_map}
 use Rattle.ild_typed.specs.Node.{IsRoot}
 use Rattle.ild_open_parts.specs.Hamts.{IsSpelledRow}

@@ -3,6 +3,9 @@ use Rattle.std.proofs.Common.{◌≡◌, ℕ, List, Bool, Option, Some, None, op
 use Rattle.std.specs.Prelude.{ℤ, option_and_then}
 use Rattle.std.proofs.lemmas.Option.{same_Some, none-some}
 use Rattle.ild_cbor.specs.Scalar.{boolean_of, int_of, link_of}
+use Rattle.ild_enum.proofs.Members.{integer_is}
+use Rattle.ild_typed.proofs.Entries.{only_text_data, only_bytes_data}
+use Rattle.ild_typed.proofs.WalkSound.{any_is}
 use Rattle.ild_data.specs.Data as T
 use Rattle.ild_data.specs.Data.{Data}
 use Rattle.ild_schema.specs.Copies.{base}
@@ -33,25 +36,9 @@ boolean_is : (t : Data) (b : Bool) → boolean_of t ≡ Some b → t ≡ T.boole
 boolean_is (T.boolean c) b e = ap T.boolean (same_Some c b e)
 boolean_is t b e = absurd (none-some b e)
 
-int_is : (t : Data) (n : ℤ) → int_of t ≡ Some n → t ≡ T.integer n
-int_is (T.integer c) n e = ap T.integer (same_Some c n e)
-int_is t n e = absurd (none-some n e)
-
-text_is : (t : Data) (s : List ℕ) → text_in t ≡ Some s → t ≡ T.text s
-text_is (T.text c) s e = ap T.text (same_Some c s e)
-text_is t s e = absurd (none-some s e)
-
-bytes_is : (t : Data) (s : List ℕ) → bytes_in t ≡ Some s → t ≡ T.bytes s
-bytes_is (T.bytes c) s e = ap T.bytes (same_Some c s e)
-bytes_is t s e = absurd (none-some s e)
-
 link_is : (t : Data) (s : List ℕ) → link_of t ≡ Some s → t ≡ T.link s
 link_is (T.link c) s e = ap T.link (same_Some c s e)
 link_is t s e = absurd (none-some s e)
-
-any_is : (d t : Data) → any_data d ≡ Some t → d ≡ t
-any_is T.null t e = absurd (none-some t e)
-any_is d t e = same_Some d t e
 
 module _ (rows : List Row) (schema : IsSchema rows) (s : Slot) (t : Data) where
   abbrev pub Leaf : Value → Type 0
@@ -64,13 +51,13 @@ module _ (rows : List Row) (schema : IsSchema rows) (s : Slot) (t : Data) where
   boolean_leaf b is e = leaf_is D.Bool (L.boolean b) (V.boolean b) is refl (ap Some (sym (boolean_is t b (sym e))))
 
   pub int_leaf : (n : ℤ) → form_of rows s ≡ Some D.Int → Some n ≡ int_of t → Leaf (V.integer n)
-  int_leaf n is e = leaf_is D.Int (L.integer n) (V.integer n) is refl (ap Some (sym (int_is t n (sym e))))
+  int_leaf n is e = leaf_is D.Int (L.integer n) (V.integer n) is refl (ap Some (sym (integer_is t n (sym e))))
 
   pub text_leaf : (x y : List ℕ) → form_of rows s ≡ Some D.Text → Some y ≡ text_in t → x ≡ y → Leaf (V.text x)
-  text_leaf x y is e same = leaf_is D.Text (L.text x) (V.text x) is refl (ap Some (ap T.text same ∙ sym (text_is t y (sym e))))
+  text_leaf x y is e same = leaf_is D.Text (L.text x) (V.text x) is refl (ap Some (ap T.text same ∙ sym (only_text_data t y (sym e))))
 
   pub bytes_leaf : (x y : List ℕ) → form_of rows s ≡ Some D.Bytes → Some y ≡ bytes_in t → x ≡ y → Leaf (V.bytes x)
-  bytes_leaf x y is e same = leaf_is D.Bytes (L.bytes x) (V.bytes x) is refl (ap Some (ap T.bytes same ∙ sym (bytes_is t y (sym e))))
+  bytes_leaf x y is e same = leaf_is D.Bytes (L.bytes x) (V.bytes x) is refl (ap Some (ap T.bytes same ∙ sym (only_bytes_data t y (sym e))))
 
   pub link_leaf : (target : TypeNo) (x y : List ℕ) → form_of rows s ≡ Some (D.Link target) → Some y ≡ link_of t → x ≡ y → Leaf (V.link x)
   link_leaf target x y is e same = leaf_is (D.Link target) (L.link x) (V.link x) is refl (ap Some (ap T.link same ∙ sym (link_is t y (sym e))))

@@ -3,8 +3,8 @@ use Rattle.std.proofs.Common.{◌≡◌, ℕ, ◌<◌, List, length, get_or, Som
 use Rattle.std.specs.Prelude.{slice_get}
 use Rattle.std.proofs.lemmas.Option.{same_Some}
 use Rattle.ild_cbor.specs.declared.piece.Piece.{Piece}
+use Rattle.ild_data.proofs.Gets.{got_at}
 use Rattle.ild_data.specs.Data.{Data}
-use Rattle.ild_layer_parts.proofs.Lists.{got_at}
 use Rattle.ild_layer_piece.specs.Answers.{Layered}
 use Rattle.ild_layer_piece.specs.Pieces.{StandsFor}
 use Rattle.ild_schema.specs.Kinds.{meant}

@@ -4,6 +4,7 @@ use Rattle.std.specs.List.{AllByRecursion}
 use Rattle.std.proofs.lemmas.List.Elements.{All-contains}
 use Rattle.ild_cbor.specs.Block.{IsBlockOf}
 use Rattle.ild_cbor.specs.declared.why.BlockWhy.{BlockWhy}
+use Rattle.ild_data.proofs.AllOf.{all_at}
 use Rattle.ild_data.specs.Data.{Data}
 use Rattle.ild_data.specs.Spell.{spell}
 use Rattle.ild_data.specs.Tree.{IsTree}
@@ -16,7 +17,6 @@ use Rattle.ild_schema.specs.declared.def.TypeDef.TheVariants as D
 use Rattle.ild_schema.specs.declared.number.Slot.{Slot}
 use Rattle.ild_schema.specs.declared.number.TypeNo.{TypeNo}
 use Rattle.ild_schema.specs.declared.row.Row.{Row}
-use Rattle.ild_layer_fields.proofs.Placing.{all_at}
 use Rattle.ild_typed.specs.Node.{IsRoot}
 use Rattle.ild_typed.proofs.Wholes.{one_within}
 use Rattle.ild_bulk_walker.specs.OnTree.{HasNode}

@@ -2,6 +2,7 @@
 use Rattle.std.proofs.Common.{◌≡◌, ℕ, List, [], ◌∷◌, ◌++◌, length, length-append, Bool, true, refl, sym, ◌∙◌, ap, subst, append_assoc, append-nil, arith}
 use Rattle.std.specs.Prelude.{Ok, Err}
 use Rattle.std.specs.List.{AllByRecursion}
+use Rattle.ild_data.proofs.AllOf.{all_append}
 use Rattle.ild_data.specs.Data.{Data}
 use Rattle.ild_edges.specs.Store.{Moment}
 use Rattle.ild_schema.specs.Value as V
@@ -10,7 +11,6 @@ use Rattle.ild_schema.specs.ValueSeen.{value_of}
 use Rattle.ild_schema.specs.declared.number.Slot.{Slot}
 use Rattle.ild_schema.specs.declared.row.Row.{Row}
 use Rattle.ild_schema.specs.declared.val.Val.{Val}
-use Rattle.ild_typed.proofs.Treed.{all_append}
 use Rattle.ild_open_held.specs.Splits.{entry_parts, entry_values}
 use Rattle.ild_open_parts.specs.Reads.{HasRead, Reads, ReadsParts}
 use Rattle.ild_open_parts.specs.declared.fault.OpenFault.{OpenFault}

@@ -1,11 +1,11 @@
 -- Going over the nodes of a HAMT: what a slot that was read stands for, and what is answered of the node at the end of a way.
-use Rattle.std.proofs.Common.{◌≡◌, ℕ, suc, ◌+◌, ◌<◌, ◌≤◌, List, [], ◌∷◌, ◌++◌, length, length-append, Option, Some, None, IsUtf8, refl, sym, ◌∙◌, ap, subst, arith}
+use Rattle.std.proofs.Common.{◌≡◌, ℕ, suc, ◌+◌, ◌<◌, List, [], ◌∷◌, ◌++◌, length, length-append, Option, Some, None, IsUtf8, refl, sym, ◌∙◌, ap, subst, arith}
 use Rattle.std.specs.Prelude.{Result, Ok, Err, slice_get}
 use Rattle.std.specs.Borrow.{Bor}
-use Rattle.std.proofs.lemmas.Option.{none-some, same_Some}
 use Rattle.ild_cbor.specs.Nodes.{HasData}
 use Rattle.ild_cbor.specs.declared.node.Node.{Node}
 use Rattle.ild_cbor.specs.declared.why.BlockWhy.{BlockWhy}
+use Rattle.ild_data.proofs.AllOf.{all_at}
 use Rattle.ild_data.specs.Bytes.{AreBytes}
 use Rattle.ild_data.specs.Data.{Data}
 use Rattle.ild_data.specs.Trie.{TrieSlot, empty, bucket, child}
@@ -13,8 +13,7 @@ use Rattle.ild_data.specs.TrieShape.{trie_levels}
 use Rattle.ild_data.specs.declared.hamt_shape.HamtShape.{HamtShape}
 use Rattle.ild_data.specs.declared.id.BlockId.{BlockId}
 use Rattle.ild_edges.specs.Gained.{FromBlocks}
-use Rattle.ild_edges.specs.Store.{Gets, Moment}
-use Rattle.ild_node_slots.specs.Form.{AreTexts}
+use Rattle.ild_edges.specs.Store.{Moment}
 use Rattle.ild_node_slots.specs.Views.{EntryIs, HasEntries, HasSlots, SlotHolds}
 use Rattle.ild_node_slots.specs.declared.bucket.Bucket.{Bucket}
 use Rattle.ild_node_slots.specs.declared.view.NodeSlot.TheVariants as S
@@ -22,7 +21,6 @@ use Rattle.ild_node_slots.specs.declared.view.NodeView.{NodeView}
 use Rattle.ild_schema.specs.declared.number.Slot.{Slot}
 use Rattle.ild_schema.specs.declared.number.TypeNo.{TypeNo}
 use Rattle.ild_schema.specs.declared.row.Row.{Row}
-use Rattle.ild_layer_fields.proofs.Placing.{all_at}
 use Rattle.ild_open_known.specs.declared.kind.ReadAs.{ReadAs}
 use Rattle.ild_open_nodes.specs.inside.Beneath.{PassesChild, PassesSlot, PassesSlots}
 use Rattle.ild_open_nodes.specs.Nodes.{SlotOwned}

@@ -20,7 +20,7 @@ use Rattle.ild_data.specs.declared.hamt_shape.HamtShape.{HamtShape}
 use Rattle.ild_data.proofs.Rising.{key_exact}
 use Rattle.ild_edges.specs.Store.{block_at}
 use Rattle.ild_hamt_trie.proofs.Node.{trie-sorted}
-use Rattle.ild_hamt_trie.proofs.Pairs.{find-permutation}
+use Rattle.ild_hamt_trie.proofs.Pairs.{find-permutation, none_from}
 use Rattle.ild_hamt_trie.proofs.Parts.{key_itself, sorted_alike}
 use Rattle.ild_node_slots.specs.Form.{IsNode}
 use Rattle.ild_schema.specs.Value.{Value}
@@ -46,10 +46,6 @@ use Rattle.ild_open_rows.proofs.Trees.{all_moved}
 none_parts : (b : Bool) (d : Data) (o : Option Data) → cond b (Some d) o ≡ None → (b ≡ false) × (o ≡ None)
 none_parts true d o e = absurd (none-some d (sym e))
 none_parts false d o e = (refl, e)
-
-none_from : (o : Option Data) → not (is_some o) ≡ true → o ≡ None
-none_from None e = refl
-none_from (Some d) e = absurd cc
 
 -- a pair is put among others of which none has its key
 put_moved : (k : List ℕ) (v : Data) (ms : List (List ℕ × Data)) → find bytewise k ms ≡ None → IsPermutation ((k, v) ∷ ms) (put k v ms)

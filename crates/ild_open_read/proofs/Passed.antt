@@ -7,6 +7,7 @@ use Rattle.ild_cbor.specs.Nodes.{HasData}
 use Rattle.ild_cbor.specs.declared.node.Node.{Node}
 use Rattle.ild_cbor.specs.declared.piece.Piece.{Piece}
 use Rattle.ild_cbor.specs.declared.piece.Piece.TheVariants as P
+use Rattle.ild_open_parts.proofs.Hamting.{key_texts}
 use Rattle.ild_data.specs.Data.{Data}
 use Rattle.ild_data.specs.Limits.{deepest}
 use Rattle.ild_data.specs.Trie.{TrieSlot}
@@ -14,7 +15,6 @@ use Rattle.ild_data.specs.TrieShape.{trie_levels}
 use Rattle.ild_data.specs.declared.hamt_shape.HamtShape.{HamtShape}
 use Rattle.ild_edges.specs.Store.{Moment, block_at}
 use Rattle.ild_edges.proofs.Reading.{from_more}
-use Rattle.ild_node_slots.specs.Form.{AreTexts}
 use Rattle.ild_node_slots.specs.Views.{HasSlots}
 use Rattle.ild_node_slots.specs.declared.view.NodeView.{NodeView}
 use Rattle.ild_schema.specs.Clear.{IsSafe}
@@ -54,10 +54,6 @@ use Rattle.ild_open_parts.specs.declared.fault.OpenFault.TheVariants as F
 use Rattle.ild_open_parts.proofs.Turning.{only_refl, stops_later}
 use Rattle.ild_open_read.proofs.Ordered.{ordered, values_moved}
 use Rattle.ild_open_read.specs.inside.Passing.{IsRootView, ReadsRoot}
-
-key_texts : (rows : List Row) (room : ℕ) (key : TypeNo) (es : List (List ℕ × Data)) → AllByRecursion (KeyFits rows room key) es → AreTexts es
-key_texts rows room key [] all = tt
-key_texts rows room key (e ∷ es) all = (all.0.0, key_texts rows room key es all.1)
 
 not_kept : {A : Type 0} → false ≡ true → A
 not_kept e = absurd cc

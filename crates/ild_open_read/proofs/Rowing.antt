@@ -7,6 +7,7 @@ use Rattle.ild_cbor.specs.Block.{IsBlockOf}
 use Rattle.ild_cbor.specs.declared.node.Node.{Node}
 use Rattle.ild_cbor.specs.declared.why.BlockWhy.{BlockWhy}
 use Rattle.ild_cbor.specs.declared.why.Why.{Why}
+use Rattle.ild_data.proofs.AllOf.{all_split, all_append}
 use Rattle.ild_data.specs.Data.{Data, text}
 use Rattle.ild_data.specs.Limits.{IsWithin}
 use Rattle.ild_data.specs.Spell.{spell}
@@ -28,8 +29,6 @@ use Rattle.ild_typed.specs.Layers.{RepresentsSome}
 use Rattle.ild_typed.specs.Schema.{IsSchema}
 use Rattle.ild_typed.proofs.Fronting.{values_fronts}
 use Rattle.ild_typed.proofs.OneValue.{plain_safe}
-use Rattle.ild_typed.proofs.TreeNodes.{all_split}
-use Rattle.ild_typed.proofs.Treed.{all_append}
 use Rattle.ild_typed.proofs.WalkSound.{refused_sound}
 use Rattle.ild_bulk_walker.specs.Checked.{row_pair, spelled_pair}
 use Rattle.ild_bulk_walker.specs.declared.row.Row.{Row as Listed}

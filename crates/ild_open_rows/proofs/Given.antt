@@ -9,6 +9,7 @@ use Rattle.std.proofs.lemmas.Bool.{leb-true}
 use Rattle.std.proofs.lemmas.List.FromFn.{length-map-range_with_len}
 use Rattle.std.proofs.lemmas.Option.{none-some, same_Some}
 use Rattle.sha2.proofs.Facts256.{length-sha256}
+use Rattle.ild_data.proofs.AllOf.{all_filter}
 use Rattle.ild_data.specs.ByteOrder.{IsInOrder, bytewise, in_byte_order}
 use Rattle.ild_data.specs.Data.{Data}
 use Rattle.ild_data.specs.Limits.{IsWithin}
@@ -27,7 +28,6 @@ use Rattle.ild_hamt_trie.proofs.Slots.{all_some-length, some_cons}
 use Rattle.ild_typed.specs.Known.{AreKnown, HeldNode}
 use Rattle.ild_typed.specs.Node.{IsSlot}
 use Rattle.ild_typed.proofs.Basics.{map_from}
-use Rattle.ild_typed.proofs.TreeNodes.{part_in}
 use Rattle.ild_typed.proofs.Utf8Texts.{id_bytes}
 use Rattle.ild_bulk_walker.specs.Reads.{NodesBeneath}
 use Rattle.ild_bulk_walker.specs.Trees.{HoldsBelow, IsHeldNode}
@@ -63,7 +63,7 @@ node_form h p left depth es slots order texts is =
     let piece : ℕ → Option TrieSlot = λ i. slot_of p.bucket (node_of h p left (depth + 1)) (part at es i) in
     record {
       many = all_some-length (map piece (range_with_len 0 (2 ^ p.width))) slots is ∙ length-map-range_with_len piece 0 (2 ^ p.width);
-      each = each_slot p piece (λ i z made. one_slot p (node_of h p left (depth + 1)) (part at es i) z (in_order-part at es i order) (part_in (λ e. IsUtf8 e.0) (λ e. at e.0 == i) es texts) made) (range_with_len 0 (2 ^ p.width)) slots is;
+      each = each_slot p piece (λ i z made. one_slot p (node_of h p left (depth + 1)) (part at es i) z (in_order-part at es i order) (all_filter (λ e. IsUtf8 e.0) (λ e. at e.0 == i) es texts) made) (range_with_len 0 (2 ^ p.width)) slots is;
     }
 
 -- ---- nodes that are known are held as blocks
@@ -86,7 +86,7 @@ module _ (h : List ℕ → List ℕ) (p : HamtShape) (held : List (List ℕ)) wh
   known_holds (suc left) depth es order texts known = λ i node big has.
       let fs : List (List ℕ × Data) = part (at_depth h p depth) es i in
       let o : IsInOrder fs = in_order-part (at_depth h p depth) es i order in
-      let u : AreTexts fs = part_in (λ e. IsUtf8 e.0) (λ e. at_depth h p depth e.0 == i) es texts in
+      let u : AreTexts fs = all_filter (λ e. IsUtf8 e.0) (λ e. at_depth h p depth e.0 == i) es texts in
       let x = known i node big has in
       (held_node left (depth + 1) fs node o u has x.0, known_holds left (depth + 1) fs o u x.1)
 

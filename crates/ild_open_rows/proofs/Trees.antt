@@ -4,13 +4,13 @@ use Rattle.std.specs.List.{AllByRecursion}
 use Rattle.std.specs.List.Sorted.{IsPermutation}
 use Rattle.std.proofs.lemmas.List.Elements.{All-from_recursion, recursion_from_All}
 use Rattle.std.proofs.lemmas.List.Sorted.{All-permutation}
+use Rattle.ild_data.proofs.AllOf.{all_append}
 use Rattle.ild_data.specs.Data.{Data, items_of}
 use Rattle.ild_data.specs.Tree.{AreTrees, IsTree}
 use Rattle.ild_data.specs.Trie.{TrieSlot, empty, bucket, child, bucket_entries, elements_of, entry_data, node_data}
 use Rattle.ild_data.specs.TrieShape.{trie_levels}
 use Rattle.ild_data.specs.declared.hamt_shape.HamtShape.{HamtShape}
 use Rattle.ild_typed.specs.Node.{IsRoot}
-use Rattle.ild_typed.proofs.Treed.{all_append}
 use Rattle.ild_bulk_walker.specs.Gives.{RootGives, SlotGives, SlotsGive, TreeGives}
 
 abbrev pub IsTreed : List ℕ × Data → Type 0

@@ -26,14 +26,12 @@ use Rattle.ild_parse_grammar.specs.Derive.{IsOptional, IsReference, IsInline}
 use Rattle.ild_parse_grammar.specs.DerivePart.{IsImplicit, IsOpt, renames, is_implicit, AreOpts, IsField, IsTarget, IsMark, IsMember, IsQuoted, IsEnumMember}
 use Rattle.ild_parse_grammar.proofs.Results.{done}
 use Rattle.std.proofs.lemmas.Bool.{false≢true}
+use Rattle.ild_data.proofs.Gets.{next_is as one_more}
 use Rattle.ild_parse_grammar.proofs.Shorter.{inline_shorter, target_shorter}
 use Rattle.ild_parse_grammar.proofs.Opens.{Opens, Opened, Behind, IsSign, IsWhole, begins_more, opens_equal, opens_pure, opens_bind, opens_placed, opens_word, opens_after, part_then, word_then, all_read, read_as, either, choice, alone, last_alone}
 use Rattle.ild_parse_grammar.proofs.OpensForms.{type-opens, name-opens, text-opens, number-opens}
 
 -- ---- references
-
-one_more : (room : ℕ) → suc room ≡ room + 1
-one_more room = omega arith
 
 pub named-opens : (room end : ℕ) → Opened named_at (IsInline room) end
 unfolding named_at

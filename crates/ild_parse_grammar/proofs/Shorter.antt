@@ -34,7 +34,6 @@ use Rattle.ild_parse_grammar.specs.declared.ast.KindWord.TheVariants as KV
 use Rattle.ild_parse_grammar.specs.declared.ast.EnumMember.{EnumMember}
 use Rattle.ild_parse_grammar.specs.Reference.{Reference, refer, Refers, named, link, list, map}
 use Rattle.ild_parse_grammar.specs.Sign.{Sign}
-use Rattle.ild_parse_grammar.proofs.Refer.{}
 use Rattle.ild_parse_grammar.specs.Derive.{deepest}
 use Rattle.ild_parse_grammar.specs.Derive.{IsWord, IsTypeName, IsName, IsText, IsNumber, IsOptionalWord, IsOptional, AreParts, AreBraced, IsFormed, IsReference, IsInline}
 use Rattle.ild_parse_grammar.specs.DeriveForm.{IsSetting, IsOneSetting, AreTwoSettings, AreBothSettings, IsMapForm, IsStructForm, IsUnionForm, IsEnumForm, IsUnitForm}

@@ -4,6 +4,7 @@ use Rattle.std.specs.List.{AllByRecursion}
 use Rattle.std.specs.Option.{option_map_or}
 use Rattle.std.specs.Prelude.{Contains}
 use Rattle.std.proofs.lemmas.Bool.{le-leb}
+use Rattle.ild_data.proofs.AllOf.{all_split, all_contained, contains_more}
 use Rattle.ild_data.specs.Data.{Data}
 use Rattle.ild_data.specs.Key.{same_text}
 use Rattle.ild_data.specs.Limits.{longest_block}
@@ -23,9 +24,8 @@ use Rattle.ild_typed.specs.Represented.{represented}
 use Rattle.ild_typed.specs.Stands.{bare}
 use Rattle.ild_typed.proofs.Index.{own_text}
 use Rattle.ild_typed.proofs.Rooms.{all_more}
-use Rattle.ild_typed.proofs.TreeNodes.{all_split}
 use Rattle.ild_typed_places.specs.Places.{Place, Places, nowhere, place, joined, tops, blocks_in, each_place, places_in, value_places, children_at, children_of, children_in}
-use Rattle.ild_typed_places.proofs.Listing.{all_contained, all_mapped, all_one, contains_more}
+use Rattle.ild_typed_places.proofs.Listing.{all_mapped, all_one}
 use Rattle.ild_typed_places.proofs.Telling.{are_nodes}
 
 -- ---- those that are not too long

@@ -1,5 +1,5 @@
 mod Staying
-mod Coming
+pub mod Coming
 mod Answering
 mod Safe
 mod Placing

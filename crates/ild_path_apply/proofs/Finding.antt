@@ -10,31 +10,11 @@ use Rattle.ild_splice_changes.specs.TreeChange.{TreeStep, child, key, nth, part_
 use Rattle.ild_data.specs.Data as T
 use Rattle.ild_data.specs.Data.{Data}
 use Rattle.ild_path_replaced.specs.Seen.{tree_steps}
-use Rattle.ild_splice.proofs.Placed.{entries_are_at, items_are_at}
+use Rattle.ild_splice.proofs.Placed.{entries_are_at, items_are_at, item_step, entry_step}
 use Rattle.ild_splice.specs.Splices.{IsAt}
 use Rattle.ild_path_steps.specs.declared.steps.PartSteps.{PartSteps}
 use Rattle.ild_path_steps.specs.declared.steps.PartSteps.TheVariants as P
 use Rattle.ild_path_apply.specs.Applies.{IsThere}
-
-item_child : (d : Data) (i : ℕ) → item_of d i ≡ child (nth i) d
-item_child T.null i = refl
-item_child (T.boolean b) i = refl
-item_child (T.integer n) i = refl
-item_child (T.text x) i = refl
-item_child (T.bytes x) i = refl
-item_child (T.list ds) i = refl
-item_child (T.map ms) i = refl
-item_child (T.link x) i = refl
-
-pub entry_child : (d : Data) (k : List ℕ) → entry_of d k ≡ child (key k) d
-entry_child T.null k = refl
-entry_child (T.boolean b) k = refl
-entry_child (T.integer n) k = refl
-entry_child (T.text x) k = refl
-entry_child (T.bytes x) k = refl
-entry_child (T.list ds) k = refl
-entry_child (T.map ms) k = refl
-entry_child (T.link x) k = refl
 
 pub found_some : (n m : Node) (place : ℕ) (o : Option Data) → Finds n place o (Some m) → (e : Data) × (o ≡ Some e)
 found_some n m place None f = absurd f
@@ -56,13 +36,13 @@ module _ (n : Node) (t d : Data) (q : List TreeStep) (at : IsAt n t q d) where
 
   pub item_there : (i : ℕ) (r : Option Node) → ((u : Data) → HasData n u → Finds n (place_of u i) (item_of u i) r) → IsThere t (q ++ nth i ∷ []) (child (nth i) d) r
   item_there i r finds =
-      subst (λ o. IsThere t (q ++ nth i ∷ []) o r) (item_child d i)
+      subst (λ o. IsThere t (q ++ nth i ∷ []) o r) (item_step d i)
       (found (nth i) (place_of d i) (item_of d i) r (finds d at.stands)
       (λ m is. let x = items_are_at n m t d q i at (subst (Finds n (place_of d i) (item_of d i)) is (finds d at.stands)) in (x.part, x.is, x.at)))
 
   pub entry_there : (k : List ℕ) (r : Option Node) → ((u : Data) → HasData n u → Finds n (place_of u (index_of k u)) (entry_of u k) r) → IsThere t (q ++ key k ∷ []) (child (key k) d) r
   entry_there k r finds =
-      subst (λ o. IsThere t (q ++ key k ∷ []) o r) (entry_child d k)
+      subst (λ o. IsThere t (q ++ key k ∷ []) o r) (entry_step d k)
       (found (key k) (place_of d (index_of k d)) (entry_of d k) r (finds d at.stands)
       (λ m is. let x = entries_are_at n m t d q k at (subst (Finds n (place_of d (index_of k d)) (entry_of d k)) is (finds d at.stands)) in (x.part, x.is, x.at)))
 

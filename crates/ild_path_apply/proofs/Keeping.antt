@@ -3,11 +3,11 @@ use Rattle.std.proofs.Common.{◌≡◌, ℕ, zero, suc, List, [], ◌∷◌, �
 use Rattle.std.specs.Prelude.{option_and_then, slice_set}
 use Rattle.std.specs.Option.{option_map_or}
 use Rattle.std.proofs.lemmas.Option.{same_Some, none-some}
-use Rattle.ild_splice_changes.specs.TreeChange.{TreeStep, altered, child, key, nth, part_at, replaced_at, with_child}
+use Rattle.ild_splice_changes.specs.TreeChange.{TreeStep, altered, child, part_at, replaced_at, with_child}
+use Rattle.ild_path_changes.proofs.Commuting.{child_same}
 use Rattle.ild_data.specs.Data as T
-use Rattle.ild_data.specs.Data.{Data, items_list, items_of, members_list, members_of}
+use Rattle.ild_data.specs.Data.{Data}
 use Rattle.ild_data.specs.Key.{same_text, value_at}
-use Rattle.ild_data.proofs.Lists.{items_of-items_list, members_of-members_list}
 
 set_same : (xs : List Data) (i : ℕ) (e : Data) → slice_get xs i ≡ Some e → slice_set xs i e ≡ xs
 set_same [] i e h = refl
@@ -22,18 +22,6 @@ entry_same k m ms e false h rest = ap (λ ys. m ∷ ys) (rest h)
 entries_same : (k : List ℕ) (ms : List (List ℕ × Data)) (e : Data) → value_at k ms ≡ Some e → replaced_at k e ms ≡ ms
 entries_same k [] e h = refl
 entries_same k (m ∷ ms) e h = entry_same k m ms e (same_text k m.0) h (entries_same k ms e)
-
-pub child_same : (s : TreeStep) (t e : Data) → child s t ≡ Some e → with_child s e t ≡ t
-child_same s T.null e h = refl
-child_same s (T.boolean b) e h = refl
-child_same s (T.integer n) e h = refl
-child_same s (T.text x) e h = refl
-child_same s (T.bytes x) e h = refl
-child_same (nth i) (T.list ds) e h = ap T.list (ap items_of (set_same (items_list ds) i e h) ∙ items_of-items_list ds)
-child_same (key k) (T.list ds) e h = refl
-child_same (nth i) (T.map ms) e h = refl
-child_same (key k) (T.map ms) e h = ap T.map (ap members_of (entries_same k (members_list ms) e h) ∙ members_of-members_list ms)
-child_same s (T.link x) e h = refl
 
 -- what a change of a part doesn't change stays
 kept_at : (f : Data → Data) (s : TreeStep) (q : List TreeStep) (t : Data) (o : Option Data) → child s t ≡ o → ((e : Data) → ((d : Data) → part_at q e ≡ Some d → f d ≡ d) → altered f q e ≡ e)

@@ -1,5 +1,5 @@
 -- Items that come into a list and go, where the item may be no list.
-use Rattle.std.proofs.Common.{◌≡◌, ◌<◌, ℕ, zero, suc, List, [], ◌∷◌, ◌++◌, append-nil, insert, length, slice_get, Some, None, refl, sym, ◌∙◌, ap, subst, arith}
+use Rattle.std.proofs.Common.{◌≡◌, ◌<◌, ℕ, zero, suc, List, [], ◌∷◌, ◌++◌, append-nil, insert, length, slice_get, Some, None, refl, sym, ◌∙◌, ap, subst}
 use Rattle.std.specs.Prelude.{Result, min, remove}
 use Rattle.std.proofs.lemmas.List.{drop_min, take_min}
 use Rattle.std.proofs.lemmas.Option.{same_Some, none-some}
@@ -9,6 +9,7 @@ use Rattle.ild_cbor.specs.Span.{item_of, place_of}
 use Rattle.ild_cbor.specs.declared.kind.Kind.TheVariants as K
 use Rattle.ild_cbor.specs.declared.node.Node.{Node}
 use Rattle.ild_splice_changes.specs.TreeChange.{change_here, changed, insert_item, one, remove_item, unchanged}
+use Rattle.ild_data.proofs.Gets.{got_below}
 use Rattle.ild_data.proofs.Lists.{items_of-items_list}
 use Rattle.ild_data.specs.Data as T
 use Rattle.ild_data.specs.Data.{Data, items_list, items_of}
@@ -53,12 +54,6 @@ not_list n at x r s never = no_change n (insert_item at x) r s (λ d stands. by 
   by (T.map ms) h = refl
   by (T.link y) h = refl
 
--- where there is an item, it is one of a list; where there is none, none goes
-got_short : {X : Type 0} (xs : List X) (i : ℕ) (x : X) → slice_get xs i ≡ Some x → i < length xs
-got_short [] i x h = absurd (none-some x h)
-got_short (y ∷ ys) zero x h = omega arith
-got_short (y ∷ ys) (suc i) x h = let more = got_short ys i x h in omega (arith, more)
-
 remove_past : {X : Type 0} (xs : List X) (i : ℕ) → slice_get xs i ≡ None → remove xs i ≡ xs
 remove_past [] zero h = refl
 remove_past [] (suc i) h = refl
@@ -75,7 +70,7 @@ item_in (T.boolean b) e i h = absurd (none-some e h)
 item_in (T.integer n) e i h = absurd (none-some e h)
 item_in (T.text y) e i h = absurd (none-some e h)
 item_in (T.bytes y) e i h = absurd (none-some e h)
-item_in (T.list ds) e i h = record { list = refl; less = λ m c. subst (λ (k : ℕ). i < k) (same_Some (length (items_list ds)) m c) (got_short (items_list ds) i e h) }
+item_in (T.list ds) e i h = record { list = refl; less = λ m c. subst (λ (k : ℕ). i < k) (same_Some (length (items_list ds)) m c) (got_below (items_list ds) i e h) }
 item_in (T.map ms) e i h = absurd (none-some e h)
 item_in (T.link y) e i h = absurd (none-some e h)
 

@@ -16,11 +16,11 @@ use Rattle.ild_data.specs.Data as T
 use Rattle.ild_data.specs.Data.{Data, members_list, members_of}
 use Rattle.ild_data.specs.Key.{Rises, same_text, value_at, without}
 use Rattle.ild_data.specs.Tree.{AreEntries, IsTree}
-use Rattle.ild_splice.proofs.Placed.{entries_are_at}
+use Rattle.ild_splice.proofs.Placed.{entries_are_at, entry_step}
 use Rattle.ild_splice.specs.Splices.{Splices}
 use Rattle.ild_splice.specs.declared.error.SpliceErr.{SpliceErr}
 use Rattle.ild_path_apply.specs.Applies.{Applies}
-use Rattle.ild_path_apply.proofs.Finding.{entry_child, found_none, found_some}
+use Rattle.ild_path_apply.proofs.Finding.{found_none, found_some}
 use Rattle.ild_path_apply.proofs.Keeping.{altered_within}
 use Rattle.ild_path_apply.proofs.Within.{makes_same, no_change, same_at}
 
@@ -96,7 +96,7 @@ pub entry_again : (n m : Node) (k : List ℕ) (x : Data) (r : Result (List ℕ) 
 entry_again n m k x r finds s = record {
   makes = λ t d q at.
       let f = entries_are_at n m t d q k at (finds d at.stands) in
-      let there : child (key k) d ≡ Some f.part = sym (entry_child d k) ∙ f.is in
+      let there : child (key k) d ≡ Some f.part = sym (entry_step d k) ∙ f.is in
       let here : altered (change_here (replace x)) (key k ∷ []) d ≡ change_here (insert_entry k x) d =
       ap (λ o. option_map_or (λ e. with_child (key k) x d) o d) there ∙ put_here d f.part x k at.stands.within.tree there in
       makes_same (changed (q ++ key k ∷ []) (replace x) t) (changed (q ++ []) (insert_entry k x) t) r

@@ -5,7 +5,8 @@ use Rattle.std.specs.Option.{option_map_or}
 use Rattle.std.proofs.lemmas.Option.{same_Some, none-some}
 use Rattle.ild_cbor.specs.Nodes.{HasData}
 use Rattle.ild_cbor.specs.declared.node.Node.{Node}
-use Rattle.ild_splice_changes.specs.TreeChange.{Located, TreeChange, TreeStep, altered, applied, change_here, changed, child, one, part_at, replace, unchanged, with_child}
+use Rattle.ild_splice_changes.specs.TreeChange.{TreeChange, TreeStep, altered, applied, change_here, changed, child, one, part_at, replace, unchanged, with_child}
+use Rattle.ild_path_replaced.proofs.Carrying.{join_one}
 use Rattle.ild_data.specs.Data.{Data}
 use Rattle.ild_data.specs.Spell.{spell}
 use Rattle.ild_path_last.specs.Change.{NewIs}
@@ -42,13 +43,6 @@ pub no_change : (n : Node) (c : TreeChange) (r : Result (List ℕ) SpliceErr) �
 no_change n c r s same = record { makes = λ t d q at. makes_same t (changed (q ++ []) c t) r (sym (ap (λ p. changed p c t) (append-nil q) ∙ here_kept t d q c at.part (same d at.stands))) (s.makes t d q at) }
 
 -- ---- the part to which steps lead
-
-join_one : (p q : List TreeStep) (e : Located) → lift_within p (lift_within q e) ≡ lift_within (p ++ q) e
-join_one p q unchanged = refl
-join_one p q (one r c) = ap (λ s. one s c) (sym (joined p q r)) where
-  joined : (p q r : List TreeStep) → (p ++ q) ++ r ≡ p ++ (q ++ r)
-  joined [] q r = refl
-  joined (a ∷ p) q r = ap (λ s. a ∷ s) (joined p q r)
 
 module _ (n : Node) (p : List TreeStep) (x : Data) (r : Result (List ℕ) SpliceErr) where
   pub in_part : (m : Node) → ((t d : Data) (q : List TreeStep) → IsAt n t q d → IsThere t (q ++ p) (part_at p d) (Some m)) → Splices m (replace x) r → Applies n (lift_within p (one [] (replace x))) r

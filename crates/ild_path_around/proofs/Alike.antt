@@ -3,10 +3,10 @@ use Rattle.std.proofs.Common.{◌≡◌, ℕ, List, [], ◌∷◌, ◌++◌, Boo
 use Rattle.std.specs.Prelude.{option_and_then, option_map}
 use Rattle.std.specs.Option.{option_map_or}
 use Rattle.std.proofs.lemmas.Option.{none-some, same_Some}
+use Rattle.std.proofs.lemmas.Bool.{or_from, or_parts}
 use Rattle.ild_data.specs.Data as T
 use Rattle.ild_data.specs.Data.{Data}
 use Rattle.ild_path_around.specs.Alike.{FrontsBreakAlike, SoundInside, breaks_inside}
-use Rattle.ild_path_delimiter.proofs.Freeing.{both_false, neither}
 use Rattle.ild_schema.specs.Marks.{field_text}
 use Rattle.ild_schema.specs.Slots.{form_of}
 use Rattle.ild_schema.specs.Value as V
@@ -216,10 +216,10 @@ module _ (h : List ℕ → List ℕ) (rows : List Row) where
       → ((u : Slot) → some_pair Inside rows u ps ≡ false → some_pair (breaks rows) rows u (fronts_of_pairs h rows u ps) ≡ some_pair (breaks rows) rows u ps)
       → some_layer (breaks rows) rows s (root_or_map b (represented (whole h) rows s (V.map ps)) (option_map_or (λ u. fronts_of_pairs h rows u ps) (element_of (form_of rows s)) ps)) ≡ some_layer (breaks rows) rows s (V.map ps)
   map_case s ps free true root same =
-      let x = neither (Inside (form_of rows s) (V.map ps)) (option_map_or (λ u. some_pair Inside rows u ps) (element_of (form_of rows s)) false) free in
+      let x = or_parts (Inside (form_of rows s) (V.map ps)) (option_map_or (λ u. some_pair Inside rows u ps) (element_of (form_of rows s)) false) free in
       root_breaks s (represented (whole h) rows s (V.map ps)) ∙ sym (hamt_layer (form_of rows s) ps root x.0)
   map_case s ps free false plain same =
-      let x = neither (Inside (form_of rows s) (V.map ps)) (option_map_or (λ u. some_pair Inside rows u ps) (element_of (form_of rows s)) false) free in
+      let x = or_parts (Inside (form_of rows s) (V.map ps)) (option_map_or (λ u. some_pair Inside rows u ps) (element_of (form_of rows s)) false) free in
       either_same _ _ _ _ (map_layer (form_of rows s) ps)
       (in_each (λ u vs. some_pair (breaks rows) rows u vs) (λ u vs. some_pair Inside rows u vs) (λ u vs. fronts_of_pairs h rows u vs) (element_of (form_of rows s)) ps same x.1)
 
@@ -237,29 +237,29 @@ module _ (h : List ℕ → List ℕ) (rows : List Row) where
     alike (V.hamt t) s free = refl
     alike (V.list vs) s free =
         let F = form_of rows s in
-        let x = neither (Inside F (V.list vs)) (option_map_or (λ u. some_value Inside rows u vs) (element_of F) false) free in
+        let x = or_parts (Inside F (V.list vs)) (option_map_or (λ u. some_value Inside rows u vs) (element_of F) false) free in
         either_same _ _ _ _ (list_quiet F (option_map_or (λ u. fronts_of_values h rows u vs) (element_of F) vs) ∙ sym (list_quiet F vs))
         (in_each (λ u vs. some_value (breaks rows) rows u vs) (λ u vs. some_value Inside rows u vs) (λ u vs. fronts_of_values h rows u vs) (element_of F) vs (λ u e. alike_values vs u e) x.1)
     alike (V.map ps) s free = map_case s ps free (is_hamt (form_of rows s)) refl (λ u e. alike_pairs ps u e)
     alike (V.struct os) s free =
         let F = form_of rows s in
-        let x = neither (Inside F (V.struct os)) (some_field Inside rows (fields_of F) os) free in
+        let x = or_parts (Inside F (V.struct os)) (some_field Inside rows (fields_of F) os) free in
         either_same _ _ _ _ (struct_layer F os) (alike_fields os (fields_of F) x.1)
     alike (V.union n v) s free =
         let F = form_of rows s in
-        let x = neither (Inside F (V.union n v)) (option_map_or (λ u. some_layer Inside rows u v) (member_of F n) false) free in
+        let x = or_parts (Inside F (V.union n v)) (option_map_or (λ u. some_layer Inside rows u v) (member_of F n) false) free in
         either_same _ _ _ _ (union_quiet F n (option_map_or (λ u. front h rows u v) (member_of F n) v) ∙ sym (union_quiet F n v))
         (in_each (λ u v. some_layer (breaks rows) rows u v) (λ u v. some_layer Inside rows u v) (λ u v. front h rows u v) (member_of F n) v (λ u e. alike v u e) x.1)
 
     alike_values : (vs : Values) (u : Slot) → some_value Inside rows u vs ≡ false → some_value (breaks rows) rows u (fronts_of_values h rows u vs) ≡ some_value (breaks rows) rows u vs
     alike_values V.no_values u free = refl
     alike_values (V.value v vs) u free =
-        let x = neither (some_layer Inside rows u v) (some_value Inside rows u vs) free in either_same _ _ _ _ (alike v u x.0) (alike_values vs u x.1)
+        let x = or_parts (some_layer Inside rows u v) (some_value Inside rows u vs) free in either_same _ _ _ _ (alike v u x.0) (alike_values vs u x.1)
 
     alike_pairs : (ps : Pairs) (u : Slot) → some_pair Inside rows u ps ≡ false → some_pair (breaks rows) rows u (fronts_of_pairs h rows u ps) ≡ some_pair (breaks rows) rows u ps
     alike_pairs V.no_pairs u free = refl
     alike_pairs (V.pair k v ps) u free =
-        let x = neither (some_layer Inside rows u v) (some_pair Inside rows u ps) free in either_same _ _ _ _ (alike v u x.0) (alike_pairs ps u x.1)
+        let x = or_parts (some_layer Inside rows u v) (some_pair Inside rows u ps) free in either_same _ _ _ _ (alike v u x.0) (alike_pairs ps u x.1)
 
     alike_fields : (os : Optionals) (fs : List Field) → some_field Inside rows fs os ≡ false → some_field (breaks rows) rows fs (fronts_of_fields h rows fs os) ≡ some_field (breaks rows) rows fs os
     alike_fields V.no_optionals fs free = refl
@@ -267,7 +267,7 @@ module _ (h : List ℕ → List ℕ) (rows : List Row) where
     alike_fields (V.present v os) [] free = refl
     alike_fields (V.absent os) (f ∷ fs) free = alike_fields os fs free
     alike_fields (V.present v os) (f ∷ fs) free =
-        let x = neither (some_layer Inside rows f.slot v) (some_field Inside rows fs os) free in either_same _ _ _ _ (alike v f.slot x.0) (alike_fields os fs x.1)
+        let x = or_parts (some_layer Inside rows f.slot v) (some_field Inside rows fs os) free in either_same _ _ _ _ (alike v f.slot x.0) (alike_fields os fs x.1)
 
 -- ---- what breaks nothing has no entries that do
 
@@ -307,35 +307,35 @@ module _ (rows : List Row) where
     inside (V.hamt t) s free = refl
     inside (V.list vs) s free =
         let F = form_of rows s in
-        let x = neither (breaks rows F (V.list vs)) (option_map_or (λ u. some_value (breaks rows) rows u vs) (element_of F) false) free in
-        both_false (breaks_inside rows F (V.list vs)) _ (no_hamt F (V.list vs) (λ ps e. cc))
+        let x = or_parts (breaks rows F (V.list vs)) (option_map_or (λ u. some_value (breaks rows) rows u vs) (element_of F) false) free in
+        or_from (breaks_inside rows F (V.list vs)) _ (no_hamt F (V.list vs) (λ ps e. cc))
         (in_slot (λ u vs. some_value (breaks_inside rows) rows u vs) (λ u vs. some_value (breaks rows) rows u vs) (element_of F) vs (λ u e. inside_values vs u e) x.1)
     inside (V.map ps) s free =
         let F = form_of rows s in
-        let x = neither (breaks rows F (V.map ps)) (option_map_or (λ u. some_pair (breaks rows) rows u ps) (element_of F) false) free in
-        both_false (breaks_inside rows F (V.map ps)) _ (of_map F ps x.1)
+        let x = or_parts (breaks rows F (V.map ps)) (option_map_or (λ u. some_pair (breaks rows) rows u ps) (element_of F) false) free in
+        or_from (breaks_inside rows F (V.map ps)) _ (of_map F ps x.1)
         (in_slot (λ u ps. some_pair (breaks_inside rows) rows u ps) (λ u ps. some_pair (breaks rows) rows u ps) (element_of F) ps (λ u e. inside_pairs ps u e) x.1)
     inside (V.struct os) s free =
         let F = form_of rows s in
-        let x = neither (breaks rows F (V.struct os)) (some_field (breaks rows) rows (fields_of F) os) free in
-        both_false (breaks_inside rows F (V.struct os)) _ (no_hamt F (V.struct os) (λ ps e. cc)) (inside_fields os (fields_of F) x.1)
+        let x = or_parts (breaks rows F (V.struct os)) (some_field (breaks rows) rows (fields_of F) os) free in
+        or_from (breaks_inside rows F (V.struct os)) _ (no_hamt F (V.struct os) (λ ps e. cc)) (inside_fields os (fields_of F) x.1)
     inside (V.union n v) s free =
         let F = form_of rows s in
-        let x = neither (breaks rows F (V.union n v)) (option_map_or (λ u. some_layer (breaks rows) rows u v) (member_of F n) false) free in
-        both_false (breaks_inside rows F (V.union n v)) _ (no_hamt F (V.union n v) (λ ps e. cc))
+        let x = or_parts (breaks rows F (V.union n v)) (option_map_or (λ u. some_layer (breaks rows) rows u v) (member_of F n) false) free in
+        or_from (breaks_inside rows F (V.union n v)) _ (no_hamt F (V.union n v) (λ ps e. cc))
         (in_slot (λ u v. some_layer (breaks_inside rows) rows u v) (λ u v. some_layer (breaks rows) rows u v) (member_of F n) v (λ u e. inside v u e) x.1)
 
     inside_values : (vs : Values) (u : Slot) → some_value (breaks rows) rows u vs ≡ false → some_value (breaks_inside rows) rows u vs ≡ false
     inside_values V.no_values u free = refl
     inside_values (V.value v vs) u free =
-        let x = neither (some_layer (breaks rows) rows u v) (some_value (breaks rows) rows u vs) free in
-        both_false (some_layer (breaks_inside rows) rows u v) (some_value (breaks_inside rows) rows u vs) (inside v u x.0) (inside_values vs u x.1)
+        let x = or_parts (some_layer (breaks rows) rows u v) (some_value (breaks rows) rows u vs) free in
+        or_from (some_layer (breaks_inside rows) rows u v) (some_value (breaks_inside rows) rows u vs) (inside v u x.0) (inside_values vs u x.1)
 
     inside_pairs : (ps : Pairs) (u : Slot) → some_pair (breaks rows) rows u ps ≡ false → some_pair (breaks_inside rows) rows u ps ≡ false
     inside_pairs V.no_pairs u free = refl
     inside_pairs (V.pair k v ps) u free =
-        let x = neither (some_layer (breaks rows) rows u v) (some_pair (breaks rows) rows u ps) free in
-        both_false (some_layer (breaks_inside rows) rows u v) (some_pair (breaks_inside rows) rows u ps) (inside v u x.0) (inside_pairs ps u x.1)
+        let x = or_parts (some_layer (breaks rows) rows u v) (some_pair (breaks rows) rows u ps) free in
+        or_from (some_layer (breaks_inside rows) rows u v) (some_pair (breaks_inside rows) rows u ps) (inside v u x.0) (inside_pairs ps u x.1)
 
     inside_fields : (os : Optionals) (fs : List Field) → some_field (breaks rows) rows fs os ≡ false → some_field (breaks_inside rows) rows fs os ≡ false
     inside_fields V.no_optionals fs free = refl
@@ -343,8 +343,8 @@ module _ (rows : List Row) where
     inside_fields (V.present v os) [] free = refl
     inside_fields (V.absent os) (f ∷ fs) free = inside_fields os fs free
     inside_fields (V.present v os) (f ∷ fs) free =
-        let x = neither (some_layer (breaks rows) rows f.slot v) (some_field (breaks rows) rows fs os) free in
-        both_false (some_layer (breaks_inside rows) rows f.slot v) (some_field (breaks_inside rows) rows fs os) (inside v f.slot x.0) (inside_fields os fs x.1)
+        let x = or_parts (some_layer (breaks rows) rows f.slot v) (some_field (breaks rows) rows fs os) free in
+        or_from (some_layer (breaks_inside rows) rows f.slot v) (some_field (breaks_inside rows) rows fs os) (inside v f.slot x.0) (inside_fields os fs x.1)
 
 pub sound_inside : SoundInside
 sound_inside rows s v free = inside rows v s free

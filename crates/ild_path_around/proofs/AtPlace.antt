@@ -6,9 +6,9 @@ use Rattle.std.specs.Prelude.{IfOk, IsUtf8, Result, Ok, Err}
 use Rattle.std.specs.declared.alloc.AllocError.{AllocError}
 use Rattle.std.proofs.lemmas.Option.{none-some, same_Some}
 use Rattle.ild_build.specs.TextRep.{text_rep}
+use Rattle.ild_path_edits.proofs.KeepTyped.{ok_same}
 use Rattle.ild_data.specs.Data.{Data, text}
 use Rattle.ild_path_around.proofs.Behind.{EndsAtKey, IsMovable, at_hop, at_key, at_key_slot, coming_moves, going_moves, inner, key_free, slot_behind, through_hops}
-use Rattle.ild_path_around.proofs.Keys.{ok_same}
 use Rattle.ild_path_around.proofs.Slots.{slots_of_fronts}
 use Rattle.ild_path_around.specs.Around.{TellsInBlock, text_edit_of}
 use Rattle.ild_path_around.specs.Blocks.{BringsTextPart, IsTextPart}

@@ -3,10 +3,10 @@ use Rattle.std.proofs.Common.{◌≡◌, ℕ, List, [], ◌∷◌, Bool, true, f
 use Rattle.std.specs.Prelude.{◌||◌, IsUtf8, Result, Ok, Err, is_some, if◌then◌else◌}
 use Rattle.std.specs.Option.{option_map_or}
 use Rattle.std.proofs.lemmas.Option.{none-some, same_Some}
+use Rattle.std.proofs.lemmas.Bool.{or_from, or_parts}
 use Rattle.ild_data.specs.Key.{same_text, value_at, without}
-use Rattle.ild_path_delimiter.proofs.Freeing.{both_false, neither}
 use Rattle.ild_path_delimiter.specs.Laws.{OnlyTextsBreak}
-use Rattle.ild_path_edits.proofs.KeepTyped.{edits_keep_types}
+use Rattle.ild_path_edits.proofs.KeepTyped.{edits_keep_types, ok_same}
 use Rattle.ild_path_edits.proofs.LayerTesting.{set_is_judged}
 use Rattle.ild_path_edits.proofs.Paths.{may_stand}
 use Rattle.ild_path_edits.specs.Edit.{Edit, change, del_at, ins_at, path_of, set_at}
@@ -35,9 +35,6 @@ use Rattle.ild_typed.specs.Slots.{element_of}
 
 -- ---- results
 
-pub ok_same : (v w : Value) → ◌≡◌ {A = Result Value No} (Ok v) (Ok w) → v ≡ w
-ok_same v w e = cc
-
 err_ok : {A : Type 0} (n : No) (c : Value) → ◌≡◌ {A = Result Value No} (Err n) (Ok c) → A
 err_ok n c e = absurd cc
 
@@ -59,18 +56,18 @@ split_ok rows p path (Err n) c e = err_ok n c e
 module _ (test : Option TypeDef → Value → Bool) (rows : List Row) where
   pair_gone : (b : Bool) (elem : Slot) (x : List ℕ × Value) (xs ys : List (List ℕ × Value)) → some_pair test rows elem (pairs_of (x ∷ xs)) ≡ false → some_pair test rows elem (pairs_of ys) ≡ false
       → some_pair test rows elem (pairs_of (if b then xs else x ∷ ys)) ≡ false
-  pair_gone true elem x xs ys all rest = (neither (some_layer test rows elem x.1) (some_pair test rows elem (pairs_of xs)) all).1
-  pair_gone false elem x xs ys all rest = both_false (some_layer test rows elem x.1) (some_pair test rows elem (pairs_of ys)) (neither (some_layer test rows elem x.1) (some_pair test rows elem (pairs_of xs)) all).0 rest
+  pair_gone true elem x xs ys all rest = (or_parts (some_layer test rows elem x.1) (some_pair test rows elem (pairs_of xs)) all).1
+  pair_gone false elem x xs ys all rest = or_from (some_layer test rows elem x.1) (some_pair test rows elem (pairs_of ys)) (or_parts (some_layer test rows elem x.1) (some_pair test rows elem (pairs_of xs)) all).0 rest
 
   pairs_gone : (k : List ℕ) (elem : Slot) (xs : List (List ℕ × Value)) → some_pair test rows elem (pairs_of xs) ≡ false → some_pair test rows elem (pairs_of (without k xs)) ≡ false
   pairs_gone k elem [] all = refl
   pairs_gone k elem (x ∷ xs) all =
-      pair_gone (same_text k x.0) elem x xs (without k xs) all (pairs_gone k elem xs (neither (some_layer test rows elem x.1) (some_pair test rows elem (pairs_of xs)) all).1)
+      pair_gone (same_text k x.0) elem x xs (without k xs) all (pairs_gone k elem xs (or_parts (some_layer test rows elem x.1) (some_pair test rows elem (pairs_of xs)) all).1)
 
   pairs_back : (elem : Slot) (ps : Pairs) → some_pair test rows elem ps ≡ false → some_pair test rows elem (pairs_of (pairs_list ps)) ≡ false
   pairs_back elem V.no_pairs all = refl
   pairs_back elem (V.pair k v ps) all =
-      let x = neither (some_layer test rows elem v) (some_pair test rows elem ps) all in both_false (some_layer test rows elem v) (some_pair test rows elem (pairs_of (pairs_list ps))) x.0 (pairs_back elem ps x.1)
+      let x = or_parts (some_layer test rows elem v) (some_pair test rows elem ps) all in or_from (some_layer test rows elem v) (some_pair test rows elem (pairs_of (pairs_list ps))) x.0 (pairs_back elem ps x.1)
 
 -- the parts of a HAMT are its entries
 hamt_breaks : (rows : List Row) (slot elem : Slot) (is : IsHamt rows slot elem) (qs : Pairs) → breaks_delimiter rows slot (V.map qs) ≡ some_pair (breaks rows) rows elem qs

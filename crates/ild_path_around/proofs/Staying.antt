@@ -4,7 +4,7 @@ use Rattle.std.specs.List.{AllByRecursion}
 use Rattle.std.specs.Prelude.{IsUtf8, Ok, option_and_then}
 use Rattle.std.proofs.lemmas.Option.{same_Some}
 use Rattle.ild_path_delimiter.proofs.Freeing.{deleted, insert_free, set_free}
-use Rattle.ild_path_edits.proofs.KeepTyped.{of_type_is_kept}
+use Rattle.ild_path_edits.proofs.KeepTyped.{of_type_is_kept, ok_same}
 use Rattle.ild_path_edits.proofs.LayerTesting.{free_is_layered, judged_along}
 use Rattle.ild_path_edits.proofs.Paths.{deleted_typed, inserted_typed, last_text, may_stand, set_typed}
 use Rattle.ild_path_edits.specs.Along.{AtPart, IsFree, IsFreeAlong, LayerPasses}
@@ -12,7 +12,6 @@ use Rattle.ild_path_edits.specs.Edit.{Edit, HasTextPath, change, del_at, del_in,
 use Rattle.ild_path_edits.specs.EditLaws.{Brings}
 use Rattle.ild_path_edits.specs.Table.{MayStand, delete_part, insert_part, key_fits, refusal_to_delete, slot_to_insert, slot_to_set}
 use Rattle.ild_path_around.proofs.Alike.{alike, inside}
-use Rattle.ild_path_around.proofs.Keys.{ok_same}
 use Rattle.ild_path_around.specs.Alike.{breaks_inside}
 use Rattle.ild_path_around.specs.Blocks.{BlocksBreakAlike}
 use Rattle.ild_schema.specs.Slots.{form_of}

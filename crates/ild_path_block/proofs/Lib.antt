@@ -2,4 +2,4 @@ pub mod Allowing
 mod Beneath
 mod Changing
 mod Numbering
-mod Replacing
+pub mod Replacing

@@ -3,9 +3,9 @@ use Rattle.std.proofs.Common.{◌≡◌, ◌<◌, ℕ, zero, suc, List, [], ◌�
 use Rattle.std.specs.Option.{option_map_or}
 use Rattle.std.specs.Prelude.{option_and_then, slice_get}
 use Rattle.std.proofs.lemmas.Option.{same_Some}
+use Rattle.ild_data.proofs.Options.{chain_some}
 use Rattle.ild_data.specs.Data.{Data}
 use Rattle.ild_path_last.specs.Change.{becomes}
-use Rattle.ild_path_changes.proofs.Lifting.{chained}
 use Rattle.ild_path_holder.specs.Along.{LeadAlong, become, holder_at, last_of}
 use Rattle.ild_schema.specs.declared.row.Row.{Row}
 use Rattle.ild_path_replaced.specs.Seen.{AreThere}
@@ -51,13 +51,13 @@ module _ (rows : List Row) where
 
   pub same_last : (p q : InSlot) (s : List ℕ) (ss : List (List ℕ)) → holder_at rows p s ss ≡ Some q → last_holder rows p s ss ≡ Some (seen rows q, last_of s ss)
   same_last p q s [] h = ap (λ (r : InSlot). Some (seen rows r, s)) (same_Some p q h)
-  same_last p q s (t ∷ ss) h = let x = chained (λ r. holder_at rows r t ss) (part (seen rows p) s) q h in ap (option_and_then (λ r. last_holder rows r t ss)) x.1 ∙ same_last x.0 q t ss x.2
+  same_last p q s (t ∷ ss) h = let x = chain_some (λ r. holder_at rows r t ss) (part (seen rows p) s) q h in ap (option_and_then (λ r. last_holder rows r t ss)) x.1 ∙ same_last x.0 q t ss x.2
 
   -- where one is known by what it is seen as
   pub seen_last : (p : InSlot) (s : List ℕ) (ss : List (List ℕ)) (l : Holder × List ℕ) → last_holder rows p s ss ≡ Some l → (q : InSlot) × (holder_at rows p s ss ≡ Some q) × ((seen rows q, last_of s ss) ≡ l)
   seen_last p s [] l h = (p, refl, same_Some (seen rows p, s) l h)
   seen_last p s (t ∷ ss) l h =
-      let x = chained (λ r. last_holder rows r t ss) (part (seen rows p) s) l h in
+      let x = chain_some (λ r. last_holder rows r t ss) (part (seen rows p) s) l h in
       let y = seen_last x.0 t ss l x.2 in
       (y.0, ap (option_and_then (λ r. holder_at rows r t ss)) x.1 ∙ y.1, y.2)
 

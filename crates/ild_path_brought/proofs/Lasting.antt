@@ -3,12 +3,12 @@ use Rattle.std.proofs.Common.{◌≡◌, inl, inr, ◌≤◌, ◌<◌, ℕ, Bool
 use Rattle.std.specs.Prelude.{IsUtf8, option_and_then}
 use Rattle.std.specs.List.{AllByRecursion}
 use Rattle.std.proofs.lemmas.Option.{same_Some}
+use Rattle.ild_data.proofs.Options.{chain_some}
 use Rattle.ild_data.specs.Data as T
 use Rattle.ild_data.specs.Data.{Data, items_of}
 use Rattle.ild_data.specs.Limits.{longest_block}
 use Rattle.ild_data.specs.Spell.{spell}
 use Rattle.ild_schema.proofs.Legibly.{legible}
-use Rattle.ild_schema.specs.declared.def.TypeDef.{TypeDef}
 use Rattle.ild_schema.specs.declared.def.TypeDef.TheVariants as D
 use Rattle.ild_schema.specs.declared.number.Slot.{Slot}
 use Rattle.ild_schema.specs.declared.row.Row.{Row}
@@ -16,7 +16,6 @@ use Rattle.ild_schema.specs.Prelude.{anything}
 use Rattle.ild_schema.specs.Slots.{form_of}
 use Rattle.ild_schema.specs.Value.{Value}
 use Rattle.ild_typed.specs.At.{InSlot, at, seen}
-use Rattle.ild_typed.specs.Composed.{Hamts}
 use Rattle.ild_typed.specs.Hamt.{whole}
 use Rattle.ild_typed.specs.Holder.{Holder, elements, any_elements, value_of, of_any}
 use Rattle.ild_typed.specs.Layer as L
@@ -28,21 +27,20 @@ use Rattle.ild_value_meaning.proofs.Told.{told}
 use Rattle.ild_path_changes.proofs.Datas.{data_of, each}
 use Rattle.ild_path_changes.proofs.Each.{each-get}
 use Rattle.ild_path_changes.proofs.HaveTrees.{has_trees}
-use Rattle.ild_path_changes.proofs.Lifting.{chained}
 use Rattle.ild_path_changes.proofs.Represented.{in_holders, inside_data, represents}
 use Rattle.ild_path_changes.specs.LiftLaws.{of_values}
 use Rattle.ild_path_sizes.proofs.Sizes.{in_list}
-use Rattle.ild_path_edits.specs.Edit.{Edit, set_at, ins_at, HasTextPath, new_slot}
+use Rattle.ild_path_edits.specs.Edit.{HasTextPath, new_slot}
 use Rattle.ild_path_edits.specs.EditLaws.{Brings}
 use Rattle.ild_path_edits.proofs.KeepTyped.{edits_keep_types}
-use Rattle.ild_path_sizes.specs.Long.{HasLongPart, IsDataOfPart}
+use Rattle.ild_path_sizes.specs.Long.{HasLongPart}
 use Rattle.ild_path_long.proofs.Parts.{parts_are_in_blocks}
 use Rattle.ild_path_judged.specs.Place.{bringing}
 use Rattle.ild_path_judged.proofs.Last.{HeldBy, kept}
 use Rattle.ild_path_room.specs.Room.{Coming, by_set, by_insert}
 use Rattle.ild_path_within.proofs.Splitting.{first_of_path, paths_split}
 use Rattle.ild_path_brought.specs.Laws.{IsBrought, LongBrought}
-use Rattle.ild_path_brought.proofs.Standing.{Beneath, Stood, at_segment, as_element, as_data, StandsIn, stands_in}
+use Rattle.ild_path_brought.proofs.Standing.{Stood, at_segment, as_element, as_data, StandsIn, stands_in}
 
 module _ (h : List ℕ → List ℕ) (rows : List Row) (is_key : ℕ → List ℕ → Bool) (schema : IsSchema rows) (keys : TestsKeys rows is_key) where
   any_there : form_of rows anything ≡ Some D.Any
@@ -66,7 +64,7 @@ module _ (h : List ℕ → List ℕ) (rows : List Row) (is_key : ℕ → List �
       → data_of (whole h) (form_of rows s) (represented (whole h) rows) s (elements slot xs) ≡ Some y → length (spell x) ≤ length (spell y)
   element_short s slot xs i w x y held is made e =
       let a = subst (λ d. data_of (whole h) d (represented (whole h) rows) s (elements slot xs) ≡ Some y) held.1 e in
-      let z = chained (λ ds. layered (whole h) (Some (D.List slot held.0)) (Some (L.list ds))) (each (represented (whole h) rows slot) xs) y a in
+      let z = chain_some (λ ds. layered (whole h) (Some (D.List slot held.0)) (Some (L.list ds))) (each (represented (whole h) rows slot) xs) y a in
       subst (λ u. length (spell x) ≤ length (spell u)) (same_Some (T.list (items_of z.0)) y z.2) (in_list z.0 i x (each-get (represented (whole h) rows slot) xs z.0 i w x z.1 is made))
 
   data_short : (s : Slot) (ds : List Data) (i : ℕ) (d x y : Data) → HeldBy rows is_key schema keys s (any_elements ds) → slice_get ds i ≡ Some d → Rep anything (of_any d) ≡ Some x

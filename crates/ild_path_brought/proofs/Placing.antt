@@ -1,7 +1,9 @@
 -- The places of the part that an edit brings are places in the changed value, and its nodes are nodes.
-use Rattle.std.proofs.Common.{◌≡◌, inl, inr, ◌<◌, ℕ, Bool, List, [], ◌∷◌, Option, Some, slice_get, refl, ap, sym, subst, ◌∙◌, arith}
+use Rattle.std.proofs.Common.{◌≡◌, inl, inr, ◌<◌, ℕ, Bool, List, [], ◌∷◌, slice_get, refl, ap, sym, subst, ◌∙◌, arith}
 use Rattle.std.specs.Prelude.{Contains, option_and_then}
 use Rattle.std.specs.List.{AllByRecursion}
+use Rattle.ild_schema.proofs.Parts.{values_list-values_of}
+use Rattle.ild_data.proofs.AllOf.{all_split, all_append, all_contained}
 use Rattle.ild_data.specs.Data as D
 use Rattle.ild_data.specs.Data.{Data}
 use Rattle.ild_schema.specs.declared.number.Slot.{Slot}
@@ -10,25 +12,22 @@ use Rattle.ild_schema.specs.Prelude.{anything}
 use Rattle.ild_schema.specs.Value.{Value, values_of}
 use Rattle.ild_typed.specs.At.{InSlot, at, seen}
 use Rattle.ild_typed.specs.Blocks.{nodes}
-use Rattle.ild_typed.specs.Holder.{Holder, elements, value_of, of_any}
+use Rattle.ild_typed.specs.Holder.{Holder, value_of, of_any}
 use Rattle.ild_typed.specs.OfType.{TestsKeys}
 use Rattle.ild_typed.specs.Schema.{IsSchema}
 use Rattle.ild_typed.specs.Segment.{part}
 use Rattle.ild_typed.specs.Slots.{element_of}
-use Rattle.ild_typed.proofs.Lists.{values_list-values_of}
 use Rattle.ild_typed.proofs.Rooms.{all_more}
-use Rattle.ild_typed.proofs.TreeNodes.{all_split}
-use Rattle.ild_typed.proofs.Treed.{all_append}
 use Rattle.ild_typed_places.specs.Parts.{LieIn}
 use Rattle.ild_typed_places.specs.Places.{Place, Places, blocks_in, down_from, each_place, nowhere, place, places_in}
 use Rattle.ild_typed_places.proofs.Joining.{down_each}
-use Rattle.ild_typed_places.proofs.Listing.{all_contained, all_one}
+use Rattle.ild_typed_places.proofs.Listing.{all_one}
 use Rattle.ild_typed_places.proofs.Parted.{elements as in_elements}
 use Rattle.ild_typed_places.proofs.Telling.{are_nodes}
 use Rattle.ild_path_places.proofs.Along.{places_of_parts}
 use Rattle.ild_path_judged.proofs.Last.{HeldBy}
 use Rattle.ild_path_brought.specs.Laws.{PlacesOfBrought, NodesOfBrought}
-use Rattle.ild_path_brought.proofs.Standing.{Beneath, Stood, at_segment, as_element, as_data, StandsIn, stands_in}
+use Rattle.ild_path_brought.proofs.Standing.{Stood, at_segment, as_element, as_data, StandsIn, stands_in}
 
 module _ (h : List ℕ → List ℕ) (rows : List Row) where
   none_in : (d : Data) → places_in h rows anything (of_any d) ≡ nowhere

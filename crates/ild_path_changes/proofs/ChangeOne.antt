@@ -1,12 +1,11 @@
 -- What an edit makes of a value is seen in its data as one change.
 use Rattle.std.proofs.Common.{◌≡◌, ℕ, List, [], ◌∷◌, Bool, Option, Some, None, refl, ap, sym, ◌∙◌}
 use Rattle.std.specs.List.{AllByRecursion}
-use Rattle.std.specs.Prelude.{IsUtf8, Result, Ok, option_and_then}
+use Rattle.std.specs.Prelude.{IsUtf8, Ok, option_and_then}
 use Rattle.ild_data.specs.Data.{Data}
 use Rattle.ild_schema.specs.declared.number.Slot.{Slot}
 use Rattle.ild_schema.specs.declared.row.Row.{Row}
 use Rattle.ild_schema.specs.Value.{Value}
-use Rattle.ild_script.specs.declared.reply.No.{No}
 use Rattle.ild_splice_changes.specs.TreeChange.{applied}
 use Rattle.ild_typed.specs.At.{InSlot, last_holder, changed_in}
 use Rattle.ild_typed.specs.Composed.{Hamts}
@@ -18,15 +17,12 @@ use Rattle.ild_typed.specs.Segment.{set_part}
 use Rattle.ild_path_edits.specs.Edit.{Edit, set_at, ins_at, del_at, HasTextPath, set_in, ins_in, del_in, change}
 use Rattle.ild_path_edits.specs.EditLaws.{Brings}
 use Rattle.ild_path_edits.specs.Table.{slot_to_set, slot_to_insert, key_fits, insert_part, refusal_to_delete, delete_part}
-use Rattle.ild_path_edits.proofs.KeepTyped.{of_type_is_kept}
+use Rattle.ild_path_edits.proofs.KeepTyped.{of_type_is_kept, ok_same}
 use Rattle.ild_path_edits.proofs.Paths.{last_text, may_stand, placed_typed, kept_typed}
 use Rattle.ild_path_changes.specs.Lift.{whole}
 use Rattle.ild_path_changes.specs.LastLift.{setting, inserting, deleting}
 use Rattle.ild_path_changes.specs.LiftLaws.{AreHamts, seen_from, edit_seen, ChangesAreOneChange}
 use Rattle.ild_path_changes.proofs.EditOne.{edits_are_one_change}
-
-ok_same : (v w : Value) → ◌≡◌ {A = Result Value No} (Ok v) (Ok w) → v ≡ w
-ok_same v w h = cc
 
 module _ (rows : List Row) (is_key : ℕ → List ℕ → Bool) (hamts : Hamts) (tried : AreHamts hamts) (schema : IsSchema rows) (keys : TestsKeys rows is_key) where
   abbrev rep : Slot → Value → Option Data

@@ -67,7 +67,7 @@ replaced_same : {V : Type 0} (k : List ℕ) (v : V) (ms : List (List ℕ × V)) 
 replaced_same k v [] h = refl
 replaced_same k v (m ∷ ms) h = replaced_same_at k v m ms (same_text k m.0) h (λ g. replaced_same k v ms g)
 
-child_same : (s : TreeStep) (t u : Data) → child s t ≡ Some u → with_child s u t ≡ t
+pub child_same : (s : TreeStep) (t u : Data) → child s t ≡ Some u → with_child s u t ≡ t
 child_same s null u h = refl
 child_same s (boolean b) u h = refl
 child_same s (integer n) u h = refl

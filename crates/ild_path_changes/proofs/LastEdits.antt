@@ -1,4 +1,5 @@
 -- Each edit of the last holder is one change of its data.
+use Rattle.ild_data.proofs.Options.{chain_some}
 use Rattle.ild_data.specs.Data as D
 use Rattle.ild_schema.specs.declared.def.TypeDef.TheVariants as T
 use Rattle.std.proofs.Common.{cond, ◌≡◌, ℕ, List, [], ◌∷◌, length, insert, slice_get, Bool, true, false, Option, Some, None, refl, ap, sym, subst, ◌∙◌}
@@ -33,7 +34,7 @@ use Rattle.ild_path_changes.specs.LastLift.{struct_last, at_place, with_data, se
 use Rattle.ild_value_meaning.proofs.ByParts.{ByParts}
 use Rattle.ild_path_changes.proofs.Last.{each_field-gone, map_remove}
 use Rattle.ild_path_changes.proofs.LastLifting.{struct_last_law, declared_field, named_to_go, map_set_law, map_gone_law, list_set_law, list_insert_law, list_gone_law}
-use Rattle.ild_path_changes.proofs.Lifting.{chained, each_field-set}
+use Rattle.ild_path_changes.proofs.Lifting.{each_field-set}
 use Rattle.ild_path_changes.proofs.Others.{map_set}
 use Rattle.ild_path_changes.proofs.Represented.{each_field-some, each_itself, pairs_themselves, inside_data}
 use Rattle.ild_path_edits.proofs.Typing.{entries_rise}
@@ -70,8 +71,8 @@ module _ (rows : List Row) (is_key : ℕ → List ℕ → Bool) (apart : AreTold
       let fs = r.fields in
       let y = declared_field s fs os q h in
       let g = y.declared in
-      let a = chained (λ ds. struct_form r.form fs ds) (each_field (represented at rows) fs os) t was in
-      let b = chained (λ ds. struct_form r.form fs ds) (each_field (represented at rows) fs (set_field s (Some w) fs os)) n now in
+      let a = chain_some (λ ds. struct_form r.form fs ds) (each_field (represented at rows) fs os) t was in
+      let b = chain_some (λ ds. struct_form r.form fs ds) (each_field (represented at rows) fs (set_field s (Some w) fs os)) n now in
       let x = each_field-some (represented at rows) s fs (set_field s (Some w) fs os) b.0 g w b.1 y.named (y.set w) in
       let set = each_field-set (represented at rows) s w x.0 fs os a.0 g a.1 y.named x.1 in
       let made : struct_form r.form fs (set_field s (Some x.0) fs a.0) ≡ Some n = sym (ap (option_and_then (λ ds. struct_form r.form fs ds)) set) ∙ now in
@@ -85,7 +86,7 @@ module _ (rows : List Row) (is_key : ℕ → List ℕ → Bool) (apart : AreTold
   field_gone slot r os s f h u t n was now after =
       let fs = r.fields in
       let y = named_to_go s fs os h in
-      let a = chained (λ ds. struct_form r.form fs ds) (each_field (represented at rows) fs os) t was in
+      let a = chain_some (λ ds. struct_form r.form fs ds) (each_field (represented at rows) fs os) t was in
       let gone = each_field-gone (represented at rows) s fs os a.0 a.1 in
       let made : struct_form r.form fs (set_field s None fs a.0) ≡ Some n = sym (ap (option_and_then (λ ds. struct_form r.form fs ds)) gone) ∙ now in
       struct_last_law r.form fs a.0 s y.0 None t n u (clear_struct slot r f) y.1 a.2 made after

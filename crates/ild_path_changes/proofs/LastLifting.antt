@@ -1,4 +1,5 @@
 -- What comes, goes or becomes another in the last holder: one law a form.
+use Rattle.ild_data.proofs.Options.{chain_some, map_some}
 use Rattle.ild_data.specs.Data as D
 use Rattle.ild_schema.specs.declared.def.MapForm.TheVariants as M
 use Rattle.ild_schema.specs.declared.def.StructForm.TheVariants as S
@@ -35,7 +36,7 @@ use Rattle.ild_path_changes.proofs.Each.{joined, each_pair-at}
 use Rattle.ild_path_edits.proofs.Entries.{put_by-there, set-there}
 use Rattle.ild_path_changes.proofs.Fields.{struct_map, around, struct_tuple}
 use Rattle.ild_path_changes.proofs.Last.{list_insert, list_remove, map_remove, pairs_remove}
-use Rattle.ild_path_changes.proofs.Lifting.{opened, chained, place_same, written_is}
+use Rattle.ild_path_changes.proofs.Lifting.{place_same, written_is}
 use Rattle.ild_path_changes.proofs.Others.{list_set, map_set, pairs_set}
 use Rattle.ild_path_changes.proofs.Represented.{each-some, each_pair-some}
 
@@ -77,7 +78,7 @@ plain_items [] [] xs h = record { items = h; count = refl }
 plain_items [] (o ∷ os) xs h = absurd (none-some xs h)
 plain_items (f ∷ fs) [] xs h = absurd (none-some xs h)
 plain_items (f ∷ fs) (Some d ∷ os) xs h =
-    let x = opened (λ ys. d ∷ ys) (typed_items fs os) xs h in
+    let x = map_some (λ ys. d ∷ ys) (typed_items fs os) xs h in
     let r = plain_items fs os x.0 x.1 in
     record { items = ap (λ o. option_map (λ ys. d ∷ ys) o) r.items ∙ ap Some x.2; count = ap (λ n. suc n) r.count }
 plain_items (f ∷ fs) (None ∷ os) xs h = absent_case f fs os xs (are_absent (f ∷ fs) (None ∷ os)) refl h
@@ -86,21 +87,21 @@ plain_items (f ∷ fs) (None ∷ os) xs h = absent_case f fs os xs (are_absent (
 pub struct_last_law : (m : StructForm) (fs : List Field) (ds : List (Option Data)) (s : List ℕ) (g : Field) (o : Option Data) (t n : Data) (u : Option Data) → ClearStruct m fs → field_named s fs ≡ Some g
     → struct_form m fs ds ≡ Some t → struct_form m fs (set_field s o fs ds) ≡ Some n → u ≡ Some n → n ≡ applied (struct_last m s fs ds g (field_data s fs ds) o u) t
 struct_last_law S.Map fs ds s g o t n u clear named was now after =
-    let x = opened (λ es. map_data (sorted es)) (field_entries fs ds) t was in
-    let y = opened (λ es. map_data (sorted es)) (field_entries fs (set_field s o fs ds)) n now in
+    let x = map_some (λ es. map_data (sorted es)) (field_entries fs ds) t was in
+    let y = map_some (λ es. map_data (sorted es)) (field_entries fs (set_field s o fs ds)) n now in
     let a = written_is fs ds x.0 x.1 in
     let b = written_is fs (set_field s o fs ds) y.0 y.1 in
     sym y.2 ∙ ap (λ es. map_data (sorted es)) b.same ∙ struct_map left_out s o fs ds g clear.apart a.count named
     ∙ ap (applied (at_key (represented_name g) (written left_out g (field_data s fs ds)) (written left_out g o))) (ap (λ es. map_data (sorted es)) (sym a.same) ∙ x.2)
 struct_last_law S.Tuple fs ds s g o t n u clear named was now after =
-    let x = opened (λ xs. D.list (items_of xs)) (typed_items fs ds) t was in
-    let y = opened (λ xs. D.list (items_of xs)) (typed_items fs (set_field s o fs ds)) n now in
+    let x = map_some (λ xs. D.list (items_of xs)) (typed_items fs ds) t was in
+    let y = map_some (λ xs. D.list (items_of xs)) (typed_items fs (set_field s o fs ds)) n now in
     let a = plain_items fs ds x.0 x.1 in
     let b = plain_items fs (set_field s o fs ds) y.0 y.1 in
     sym y.2 ∙ struct_tuple s o fs ds g x.0 y.0 a.count named a.items b.items ∙ ap (applied (at_item (field_place s fs) (field_data s fs ds) o)) x.2
 struct_last_law S.ListPairs fs ds s g o t n u clear named was now after =
-    let x = opened listpairs (field_entries fs ds) t was in
-    let y = opened listpairs (field_entries fs (set_field s o fs ds)) n now in
+    let x = map_some listpairs (field_entries fs ds) t was in
+    let y = map_some listpairs (field_entries fs (set_field s o fs ds)) n now in
     let a = written_is fs ds x.0 x.1 in
     let b = written_is fs (set_field s o fs ds) y.0 y.1 in
     let r = around left_out s fs ds g a.count named in
@@ -165,8 +166,8 @@ pub map_set_law : (at : Hamts) (g : MapForm) (f : Value → Option Data) (ps : L
     → option_and_then (λ ds. map_form at g (L.map ds)) (each_pair f ps) ≡ Some t → option_and_then (λ ds. map_form at g (L.map ds)) (each_pair f (put_by (is_paired g) s w ps)) ≡ Some n → u ≡ Some n
     → n ≡ applied (map_last g s (place_of s ps) (option_and_then f (value_at s ps)) (f w) u) t
 map_set_law at g f ps s w t n u order was now after =
-    let a = chained (λ ds. map_form at g (L.map ds)) (each_pair f ps) t was in
-    let b = chained (λ ds. map_form at g (L.map ds)) (each_pair f (put_by (is_paired g) s w ps)) n now in
+    let a = chain_some (λ ds. map_form at g (L.map ds)) (each_pair f ps) t was in
+    let b = chain_some (λ ds. map_form at g (L.map ds)) (each_pair f (put_by (is_paired g) s w ps)) n now in
     let x = each_pair-some f s (put_by (is_paired g) s w ps) b.0 w b.1 (put_by-there (is_paired g) s w ps) in
     set_entry at g f ps s w x.0 t n a.0 u a.1 order a.2 x.1 now after ∙ (λ i. applied (map_last g s (place_of s ps) (option_and_then f (value_at s ps)) (sym x.1 i) u) t)
 
@@ -188,7 +189,7 @@ pub map_gone_law : (at : Hamts) (g : MapForm) (f : Value → Option Data) (ps : 
     → option_and_then (λ ds. map_form at g (L.map ds)) (each_pair f ps) ≡ Some t → option_and_then (λ ds. map_form at g (L.map ds)) (each_pair f (without s ps)) ≡ Some n → u ≡ Some n
     → n ≡ applied (map_last g s (place_of s ps) (option_and_then f (value_at s ps)) None u) t
 map_gone_law at g f ps s t n u order was now after =
-    let a = chained (λ ds. map_form at g (L.map ds)) (each_pair f ps) t was in
+    let a = chain_some (λ ds. map_form at g (L.map ds)) (each_pair f ps) t was in
     gone_entry at g f ps s t n a.0 u a.1 order a.2 now after
 
 -- a list
@@ -203,8 +204,8 @@ pub list_set_law : {X : Type 0} (f : X → Option Data) (xs : List X) (o : Optio
     → n ≡ applied (at_place (λ i. with_data (λ x. one (nth i ∷ []) (replace x)) (f w)) o) t
 list_set_law f xs None w t n there was now = same_Some n t (sym now ∙ was)
 list_set_law f xs (Some i) w t n there was now =
-    let a = chained (λ ds. Some (list_data ds)) (each f xs) t was in
-    let b = chained (λ ds. Some (list_data ds)) (each f (slice_set xs i w)) n now in
+    let a = chain_some (λ ds. Some (list_data ds)) (each f xs) t was in
+    let b = chain_some (λ ds. Some (list_data ds)) (each f (slice_set xs i w)) n now in
     let x = there i refl in
     let d = each-some f xs a.0 i x.0 a.1 x.1 in
     let e = each-some f (slice_set xs i w) b.0 i w b.1 (set-there xs i x.0 w x.1) in
@@ -217,8 +218,8 @@ pub list_insert_law : {X : Type 0} (f : X → Option Data) (xs : List X) (o : Op
     → n ≡ applied (at_place (λ i. with_data (λ x. one [] (insert_item i x)) (f w)) o) t
 list_insert_law f xs None w t n was now = same_Some n t (sym now ∙ was)
 list_insert_law f xs (Some i) w t n was now =
-    let a = chained (λ ds. Some (list_data ds)) (each f xs) t was in
-    let b = chained (λ ds. Some (list_data ds)) (each f (insert xs i w)) n now in
+    let a = chain_some (λ ds. Some (list_data ds)) (each f xs) t was in
+    let b = chain_some (λ ds. Some (list_data ds)) (each f (insert xs i w)) n now in
     let e = each-insert-some f xs i w b.0 b.1 in
     let l = list_insert f xs a.0 i w e.0 a.1 e.1 in
     sym (same_Some _ n (sym (ap (λ o. option_and_then (λ ds. Some (list_data ds)) o) l.0) ∙ now)) ∙ l.1 ∙ ap (applied (one [] (insert_item i e.0))) (same_Some _ t a.2)
@@ -229,6 +230,6 @@ pub list_gone_law : {X : Type 0} (f : X → Option Data) (xs : List X) (o : Opti
     → n ≡ applied (at_place (λ i. one [] (remove_item i)) o) t
 list_gone_law f xs None t n was now = same_Some n t (sym now ∙ was)
 list_gone_law f xs (Some i) t n was now =
-    let a = chained (λ ds. Some (list_data ds)) (each f xs) t was in
+    let a = chain_some (λ ds. Some (list_data ds)) (each f xs) t was in
     let l = list_remove f xs a.0 i a.1 in
     sym (same_Some _ n (sym (ap (λ o. option_and_then (λ ds. Some (list_data ds)) o) l.0) ∙ now)) ∙ l.1 ∙ ap (applied (one [] (remove_item i))) (same_Some _ t a.2)

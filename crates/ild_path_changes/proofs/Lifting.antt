@@ -1,4 +1,6 @@
 -- The change of a part, seen in its holder: one law a holder.
+use Rattle.ild_typed.proofs.Unions.{only_map_data}
+use Rattle.ild_data.proofs.Options.{chain_some, map_some}
 use Rattle.ild_data.specs.Data as D
 use Rattle.ild_schema.specs.declared.def.MapForm.TheVariants as M
 use Rattle.ild_schema.specs.declared.def.StructForm.TheVariants as S
@@ -11,7 +13,7 @@ use Rattle.std.proofs.lemmas.Option.{same_Some, none-some}
 use Rattle.ild_data.specs.Data.{Data, items_list, items_of, members_list, members_of}
 use Rattle.ild_data.specs.Key.{same_text, put, value_at, Rises}
 use Rattle.ild_data.specs.Tree.{IsTree}
-use Rattle.ild_data.proofs.Lists.{items_list-items_of, members_list-members_of, members_of-members_list}
+use Rattle.ild_data.proofs.Lists.{items_list-items_of, members_list-members_of}
 use Rattle.ild_schema.specs.declared.def.MapForm.{MapForm}
 use Rattle.ild_schema.specs.declared.def.StructForm.{StructForm}
 use Rattle.ild_schema.specs.declared.def.UnionForm.{UnionForm}
@@ -50,14 +52,6 @@ use Rattle.ild_path_changes.proofs.Beside.{IsBeside, entries_after, member_after
 pub placed : (q : List TreeStep) (t u d : Data) (e : Located) → part_at q t ≡ Some d → u ≡ changed q (replace (applied e d)) t → u ≡ applied (lift_within q e) t
 placed q t u d e h is = is ∙ within_lifts q t d e h
 
-pub opened : {X Y : Type 0} (f : X → Y) (o : Option X) (y : Y) → option_map f o ≡ Some y → (x : X) × (o ≡ Some x) × (f x ≡ y)
-opened f None y h = absurd (none-some y h)
-opened f (Some x) y h = (x, refl, same_Some (f x) y h)
-
-pub chained : {X Y : Type 0} (f : X → Option Y) (o : Option X) (y : Y) → option_and_then f o ≡ Some y → (x : X) × (o ≡ Some x) × (f x ≡ Some y)
-chained f None y h = absurd (none-some y h)
-chained f (Some x) y h = (x, refl, h)
-
 -- a list
 pub elements_lift : {X : Type 0} (f : X → Option Data) (vs : List X) (o : Option ℕ) (u c : X) (d t n : Data) (e : Located) → option_and_then (λ i. slice_get vs i) o ≡ Some u
     → option_and_then (λ ds. Some (list_data ds)) (each f vs) ≡ Some t → f u ≡ Some d → f c ≡ Some (applied e d)
@@ -65,7 +59,7 @@ pub elements_lift : {X : Type 0} (f : X → Option Data) (vs : List X) (o : Opti
     → n ≡ applied (option_map_or (λ i. lift_within (nth i ∷ []) e) o unchanged) t
 elements_lift f vs None u c d t n e h was p q now = absurd (none-some u h)
 elements_lift f vs (Some i) u c d t n e h was p q now =
-    let x = chained (λ ds. Some (list_data ds)) (each f vs) t was in
+    let x = chain_some (λ ds. Some (list_data ds)) (each f vs) t was in
     let is : list_data x.0 ≡ t = same_Some (list_data x.0) t x.2 in
     let s = list_set f vs x.0 i u c d (applied e d) x.1 h p q in
     let there : part_at (nth i ∷ []) t ≡ Some d = ap (part_at (nth i ∷ [])) (sym is) ∙ s.2 in
@@ -90,7 +84,7 @@ pub place_same : {X Y : Type 0} (f : X → Option Y) (k : List ℕ) (ps : List (
 place_same f k [] es h = ap (place_of k) (sym (same_Some [] es h))
 place_same f k (p ∷ ps) es h =
     let j = joined (option_map (λ y. (p.0, y)) (f p.1)) (each_pair f ps) es h in
-    let y = opened (λ y. (p.0, y)) (f p.1) j.first j.is_first in
+    let y = map_some (λ y. (p.0, y)) (f p.1) j.first j.is_first in
     let first : (j.first).0 ≡ p.0 = ap (λ (z : List ℕ × _). z.0) (sym y.2) in
     ap (place_of k) (sym j.whole) ∙ (λ i. cond (same_text k (first i)) 0 (suc (place_same f k ps j.rest j.is_rest i)))
 
@@ -165,16 +159,6 @@ beside_of k (one (key j ∷ q) c) h = apart_of j k h
         differ : false ≡ true → ⊥
         differ h = absurd cc
 
-members_there : (d : Data) (ms : List (List ℕ × Data)) → members_in d ≡ Some ms → d ≡ map_data ms
-members_there D.null ms h = absurd (none-some ms h)
-members_there (D.boolean b) ms h = absurd (none-some ms h)
-members_there (D.integer n) ms h = absurd (none-some ms h)
-members_there (D.text s) ms h = absurd (none-some ms h)
-members_there (D.bytes s) ms h = absurd (none-some ms h)
-members_there (D.list ds) ms h = absurd (none-some ms h)
-members_there (D.map xs) ms h = ap D.map (sym (members_of-members_list xs)) ∙ ap map_data (same_Some (members_list xs) ms h)
-members_there (D.link s) ms h = absurd (none-some ms h)
-
 pub if_some : {A : Type 0} (b : Bool) (x y : A) → cond b (Some x) None ≡ Some y → x ≡ y
 if_some true x y h = same_Some x y h
 if_some false x y h = absurd (none-some y h)
@@ -182,9 +166,9 @@ if_some false x y h = absurd (none-some y h)
 inline_by : (k name : List ℕ) (d t n : Data) (e : Located) → IsTree d → IsBeside k e → option_and_then (inlined k name) (members_in d) ≡ Some t
     → option_and_then (inlined k name) (members_in (applied e d)) ≡ Some n → n ≡ applied e t
 inline_by k name d t n e tree beside was now =
-    let a = chained (inlined k name) (members_in d) t was in
-    let b = chained (inlined k name) (members_in (applied e d)) n now in
-    let is : d ≡ map_data a.0 = members_there d a.0 a.1 in
+    let a = chain_some (inlined k name) (members_in d) t was in
+    let b = chain_some (inlined k name) (members_in (applied e d)) n now in
+    let is : d ≡ map_data a.0 = only_map_data d a.0 a.1 in
     let up : Rises a.0 = subst Rises (members_list-members_of a.0) (entries_rise (members_of a.0) (subst IsTree is tree)) in
     let old : map_data (put k (D.text name) a.0) ≡ t = if_some (is_none (value_at k a.0)) (map_data (put k (D.text name) a.0)) t a.2 in
     let new : map_data (put k (D.text name) b.0) ≡ n = if_some (is_none (value_at k b.0)) (map_data (put k (D.text name) b.0)) n b.2 in
@@ -199,9 +183,9 @@ inline_lift k name d t n e u false h tree was now after = ap (λ o. applied (who
 
 -- where a mark has a text
 marked : (F : List ℕ → Option Data) (o : Option (List ℕ)) (t : Data) → option_and_then F o ≡ Some t → (name : List ℕ) × (o ≡ Some name) × (F name ≡ Some t)
-marked F o t h = chained F o t h
+marked F o t h = chain_some F o t h
 
-with_mark : (F : List ℕ → Option Data) (o : Option (List ℕ)) (name : List ℕ) (t : Data) → o ≡ Some name → option_and_then F o ≡ Some t → F name ≡ Some t
+pub with_mark : (F : List ℕ → Option Data) (o : Option (List ℕ)) (name : List ℕ) (t : Data) → o ≡ Some name → option_and_then F o ≡ Some t → F name ≡ Some t
 with_mark F o name t e h = sym (ap (option_and_then F) e) ∙ h
 
 pub union_form_lift : (g : UnionForm) (m : Member) (d t n : Data) (e : Located) (u : Option Data) → KeysApart g → IsTree d → member_form g d m ≡ Some t → member_form g (applied e d) m ≡ Some n → u ≡ Some n
@@ -273,7 +257,7 @@ data_at : (f : Slot → Value → Option Data) (s : List ℕ) (h : Field) (fs : 
     → (field_named s fs ≡ Some g → field_data s fs os ≡ Some u → field_data s fs rest ≡ f g.slot u) → cond b y (field_data s fs rest) ≡ f g.slot u
 data_at f s h fs None os y rest g u true a e p more = absurd (none-some u p)
 data_at f s h fs (Some v) os y rest g u true a e p more =
-    let z = opened (λ d. Some d) (f h.slot v) y a in
+    let z = map_some (λ d. Some d) (f h.slot v) y a in
     sym z.2 ∙ sym z.1 ∙ (λ i. f ((same_Some h g e i).slot) (same_Some v u p i))
 data_at f s h fs o os y rest g u false a e p more = more e p
 
@@ -303,7 +287,7 @@ written_is [] [] es h = record { same = sym (same_Some [] es h); count = refl }
 written_is [] (o ∷ os) es h = absurd (none-some es h)
 written_is (f ∷ fs) [] es h = absurd (none-some es h)
 written_is (f ∷ fs) (Some d ∷ os) es h =
-    let x = opened (λ ys. entries_of f d ++ ys) (field_entries fs os) es h in
+    let x = map_some (λ ys. entries_of f d ++ ys) (field_entries fs os) es h in
     let r = written_is fs os x.0 x.1 in
     record { same = sym x.2 ∙ (λ i. entry_if (represented_name f) d (left_out f d) i ++ r.same i); count = ap (λ n. suc n) r.count }
 written_is (f ∷ fs) (None ∷ os) es h =
@@ -339,7 +323,7 @@ both_true : (a b : Bool) → (a && b) ≡ true → b ≡ true
 both_true true b h = h
 both_true false b h = absurd cc
 
-none_there : (s : List ℕ) (fs : List Field) (os : List (Option Data)) → are_absent fs os ≡ true → field_data s fs os ≡ None
+pub none_there : (s : List ℕ) (fs : List Field) (os : List (Option Data)) → are_absent fs os ≡ true → field_data s fs os ≡ None
 none_there s [] os h = refl
 none_there s (f ∷ fs) [] h = absurd cc
 none_there s (f ∷ fs) (Some d ∷ os) h = absurd cc
@@ -365,7 +349,7 @@ tuple_item s [] ds xs d h e = absurd (none-some d e)
 tuple_item s (f ∷ fs) [] xs d h e = absurd (none-some d e)
 tuple_item s (f ∷ fs) (None ∷ os) xs d h e = absurd (none_first s f fs os xs d (are_absent (f ∷ fs) (None ∷ os)) refl h e)
 tuple_item s (f ∷ fs) (Some a ∷ os) xs d h e =
-    let x = opened (λ ys. a ∷ ys) (tuple_items fs os) xs h in
+    let x = map_some (λ ys. a ∷ ys) (tuple_items fs os) xs h in
     subst (λ zs. IsItem s (f ∷ fs) (Some a ∷ os) zs d) x.2 (item_first s f fs a os x.0 d (same_text s f.name) refl x.1 e (λ g. tuple_item s fs os x.0 d x.1 g))
 
 pub struct_form_lift : (m : StructForm) (fs : List Field) (ds : List (Option Data)) (s : List ℕ) (g : Field) (d t n : Data) (e : Located) (u : Option Data)
@@ -373,8 +357,8 @@ pub struct_form_lift : (m : StructForm) (fs : List Field) (ds : List (Option Dat
     → struct_form m fs ds ≡ Some t → struct_form m fs (set_field s (Some (applied e d)) fs ds) ≡ Some n → u ≡ Some n
     → n ≡ applied (struct_lift m s fs ds g (field_data s fs ds) (Some (applied e d)) u e) t
 struct_form_lift S.Map fs ds s g d t n e u clear named here was now new =
-    let x = opened (λ es. map_data (sorted es)) (field_entries fs ds) t was in
-    let y = opened (λ es. map_data (sorted es)) (field_entries fs (set_field s (Some (applied e d)) fs ds)) n now in
+    let x = map_some (λ es. map_data (sorted es)) (field_entries fs ds) t was in
+    let y = map_some (λ es. map_data (sorted es)) (field_entries fs (set_field s (Some (applied e d)) fs ds)) n now in
     let a = written_is fs ds x.0 x.1 in
     let b = written_is fs (set_field s (Some (applied e d)) fs ds) y.0 y.1 in
     let law = struct_map left_out s (Some (applied e d)) fs ds g clear.apart a.count named in
@@ -388,15 +372,15 @@ struct_form_lift S.Map fs ds s g d t n e u clear named here was now new =
     written_lift g t n d e (left_out g d) (left_out g (applied e d)) there one_is
     ∙ (λ i. applied (entry_lift (represented_name g) (written left_out g (sym here i)) (written left_out g (Some (applied e d))) e) t)
 struct_form_lift S.Tuple fs ds s g d t n e u clear named here was now new =
-    let x = opened (λ xs. D.list (items_of xs)) (tuple_items fs ds) t was in
+    let x = map_some (λ xs. D.list (items_of xs)) (tuple_items fs ds) t was in
     let i = tuple_item s fs ds x.0 d x.1 here in
     let y : D.list (items_of (slice_set x.0 (field_place s fs) (applied e d))) ≡ n = same_Some _ n (sym (ap (option_map (λ xs. D.list (items_of xs))) (i.set (applied e d))) ∙ now) in
     placed (nth (field_place s fs) ∷ []) t n d e
     (ap (part_at (nth (field_place s fs) ∷ [])) (sym x.2) ∙ ap (λ o. option_and_then (λ e. part_at [] e) o) (ap (λ ys. slice_get ys (field_place s fs)) (items_list-items_of x.0) ∙ i.there))
     (sym y ∙ sym (list_replaced [] (replace (applied e d)) x.0 (field_place s fs) d i.there) ∙ ap (changed (nth (field_place s fs) ∷ []) (replace (applied e d))) x.2)
 struct_form_lift S.ListPairs fs ds s g d t n e u clear named here was now new =
-    let x = opened listpairs (field_entries fs ds) t was in
-    let y = opened listpairs (field_entries fs (set_field s (Some (applied e d)) fs ds)) n now in
+    let x = map_some listpairs (field_entries fs ds) t was in
+    let y = map_some listpairs (field_entries fs (set_field s (Some (applied e d)) fs ds)) n now in
     let a = written_is fs ds x.0 x.1 in
     let b = written_is fs (set_field s (Some (applied e d)) fs ds) y.0 y.1 in
     let r = around left_out s fs ds g a.count named in

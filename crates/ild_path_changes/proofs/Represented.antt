@@ -1,4 +1,5 @@
 -- The representation of values is one whose changes are lifted, holder by holder.
+use Rattle.ild_data.proofs.Options.{chain_some, map_some}
 use Rattle.ild_data.specs.Data as D
 use Rattle.ild_schema.specs.declared.def.TypeDef.TheVariants as T
 use Rattle.ild_typed.specs.Layer as L
@@ -6,7 +7,7 @@ use Rattle.std.proofs.Common.{cond, ◌≡◌, ℕ, zero, suc, List, [], ◌∷�
 use Rattle.std.specs.Prelude.{slice_set, option_map, option_and_then}
 use Rattle.std.specs.Option.{option_map_or}
 use Rattle.std.proofs.lemmas.Option.{same_Some, none-some}
-use Rattle.ild_data.specs.Data.{Data, Members, items_list, members_list, members_of}
+use Rattle.ild_data.specs.Data.{Data, items_list, members_list, members_of}
 use Rattle.ild_data.specs.Tree.{IsTree}
 use Rattle.ild_data.proofs.Lists.{members_of-members_list, items_of-items_list}
 use Rattle.ild_data.specs.Key.{same_text, value_at, put, Rises}
@@ -48,7 +49,7 @@ use Rattle.ild_path_edits.proofs.Holders.{set_part-seen}
 use Rattle.ild_value_meaning.proofs.TypedByParts.{to_parts, from_parts}
 use Rattle.ild_path_changes.proofs.Others.{map_set}
 use Rattle.ild_path_edits.proofs.Typing.{entries_rise}
-use Rattle.ild_path_changes.proofs.Lifting.{opened, chained, placed, key_there, elements_lift, map_form_lift, union_form_lift, struct_form_lift, each_field-set, field_data-each, present_field}
+use Rattle.ild_path_changes.proofs.Lifting.{placed, key_there, elements_lift, map_form_lift, union_form_lift, struct_form_lift, each_field-set, field_data-each, present_field}
 use Rattle.ild_path_edits.proofs.HeldTyped.{with_slot, inside_any, indexed, held_is, inside_of_type}
 
 -- each part of what has data has data
@@ -59,7 +60,7 @@ each-some f (y ∷ ys) ds (suc i) x h g = let j = joined (f y) (each f ys) ds h 
 
 pair_some_at : {X Y : Type 0} (f : X → Option Y) (k : List ℕ) (p : List ℕ × X) (ps : List (List ℕ × X)) (x : X) (y : List ℕ × Y) (b : Bool) → option_map (λ y. (p.0, y)) (f p.1) ≡ Some y
     → cond b (Some p.1) (value_at k ps) ≡ Some x → (value_at k ps ≡ Some x → (d : Y) × (f x ≡ Some d)) → (d : Y) × (f x ≡ Some d)
-pair_some_at f k p ps x y true a h rest = let z = opened (λ y. (p.0, y)) (f p.1) y a in (z.0, ap f (sym (same_Some p.1 x h)) ∙ z.1)
+pair_some_at f k p ps x y true a h rest = let z = map_some (λ y. (p.0, y)) (f p.1) y a in (z.0, ap f (sym (same_Some p.1 x h)) ∙ z.1)
 pair_some_at f k p ps x y false a h rest = rest h
 
 pub each_pair-some : {X Y : Type 0} (f : X → Option Y) (k : List ℕ) (ps : List (List ℕ × X)) (es : List (List ℕ × Y)) (x : X) → each_pair f ps ≡ Some es → value_at k ps ≡ Some x → (d : Y) × (f x ≡ Some d)
@@ -72,7 +73,7 @@ field_some_at : (f : Slot → Value → Option Data) (s : List ℕ) (h : Field) 
     → cond b (Some h) (field_named s fs) ≡ Some g → cond b o (field_data s fs os) ≡ Some u → (field_named s fs ≡ Some g → field_data s fs os ≡ Some u → (d : Data) × (f g.slot u ≡ Some d)) → (d : Data) × (f g.slot u ≡ Some d)
 field_some_at f s h fs None os y g u true a e p rest = absurd (none-some u p)
 field_some_at f s h fs (Some v) os y g u true a e p rest =
-    let z = opened (λ d. Some d) (f h.slot v) y a in (z.0, (λ i. f ((sym (same_Some h g e) i).slot) (sym (same_Some v u p) i)) ∙ z.1)
+    let z = map_some (λ d. Some d) (f h.slot v) y a in (z.0, (λ i. f ((sym (same_Some h g e) i).slot) (sym (same_Some v u p) i)) ∙ z.1)
 field_some_at f s h fs o os y g u false a e p rest = rest e p
 
 pub each_field-some : (f : Slot → Value → Option Data) (s : List ℕ) (fs : List Field) (os : List (Option Value)) (ds : List (Option Data)) (g : Field) (u : Value) → each_field f fs os ≡ Some ds → field_named s fs ≡ Some g
@@ -204,7 +205,7 @@ module _ (rows : List Row) (is_key : ℕ → List ℕ → Bool) (apart : AreTold
       → rep q.0 q.1 ≡ Some d → rep q.0 c ≡ Some (applied e d) → Lifts slot (Some (T.Map kt ka val pl g)) (entries kt.0 val (is_paired g) ps) s q c d e w
   map_lifts slot kt ka val pl g ps s q c d e w order p r t n h was now after =
       let y = with_slot val (value_at s ps) q h in
-      let a = chained (λ es. map_form at g (L.map es)) (each_pair (rep val) ps) t was in
+      let a = chain_some (λ es. map_form at g (L.map es)) (each_pair (rep val) ps) t was in
       map_form_lift at g (rep val) ps s y.0 c d t n e a.0 w a.1 order y.1 a.2 ((λ i. rep ((y.2 i).0) ((y.2 i).1)) ∙ p) ((λ i. rep ((y.2 i).0) c) ∙ r) now after
 
   list_lifts : (slot elem : Slot) (pl : ℕ) (vs : List Value) (s : List ℕ) (q : InSlot) (c : Value) (d : Data) (e : Located) (w : Option Data)
@@ -219,7 +220,7 @@ module _ (rows : List Row) (is_key : ℕ → List ℕ → Bool) (apart : AreTold
       let fs = r.fields in
       let y = present_field s fs os q h in
       let g = y.declared in
-      let a = chained (λ ds. struct_form r.form fs ds) (each_field (represented at rows) fs os) t was in
+      let a = chain_some (λ ds. struct_form r.form fs ds) (each_field (represented at rows) fs os) t was in
       let old : rep g.slot q.1 ≡ Some d = ap (λ z. rep z q.1) y.slot ∙ p in
       let new : rep g.slot c ≡ Some (applied e d) = ap (λ z. rep z c) y.slot ∙ v in
       let here : field_data s fs a.0 ≡ Some d = field_data-each (represented at rows) s fs os a.0 g q.1 a.1 y.named y.held ∙ old in
@@ -320,21 +321,21 @@ module _ (rows : List Row) (is_key : ℕ → List ℕ → Bool) (apart : AreTold
   list_parts slot F elem vs s q t a was =
       let y = with_slot elem (option_and_then (λ i. slice_get vs i) (index_of s)) q a in
       let i = indexed vs (index_of s) y.0 y.1 in
-      let b = chained (λ ds. layered at F (Some (L.list ds))) (each (rep elem) vs) t was in
+      let b = chain_some (λ ds. layered at F (Some (L.list ds))) (each (rep elem) vs) t was in
       let z = each-some (rep elem) vs b.0 i.0 y.0 b.1 i.1 in
       (z.0, (λ i. rep ((sym y.2 i).0) ((sym y.2 i).1)) ∙ z.1)
 
   map_parts : (slot : Slot) (F : Option TypeDef) (k : ℕ) (val : Slot) (b : Bool) (ps : List (List ℕ × Value)) (s : List ℕ) (q : InSlot) → HasParts slot F (entries k val b ps) s q
   map_parts slot F k val b ps s q t h was =
       let y = with_slot val (value_at s ps) q h in
-      let a = chained (λ es. layered at F (Some (L.map es))) (each_pair (rep val) ps) t was in
+      let a = chain_some (λ es. layered at F (Some (L.map es))) (each_pair (rep val) ps) t was in
       let z = each_pair-some (rep val) s ps a.0 y.0 a.1 y.1 in
       (z.0, (λ i. rep ((sym y.2 i).0) ((sym y.2 i).1)) ∙ z.1)
 
   struct_parts : (slot : Slot) (F : Option TypeDef) (fs : List Field) (os : List (Option Value)) (s : List ℕ) (q : InSlot) → HasParts slot F (fields fs os) s q
   struct_parts slot F fs os s q t h was =
       let y = present_field s fs os q h in
-      let a = chained (λ ds. layered at F (Some (L.struct ds))) (each_field (represented at rows) fs os) t was in
+      let a = chain_some (λ ds. layered at F (Some (L.struct ds))) (each_field (represented at rows) fs os) t was in
       let z = each_field-some (represented at rows) s fs os a.0 y.declared q.1 a.1 y.named y.held in
       (z.0, ap (λ r. rep r q.1) (sym y.slot) ∙ z.1)
 
@@ -342,7 +343,7 @@ module _ (rows : List Row) (is_key : ℕ → List ℕ → Bool) (apart : AreTold
   union_parts slot u m n v s q got t h was =
       let y = held_is s v (slice_get u.members n) m q got h in
       let had = sym (ap (option_and_then (λ (m : Member). option_and_then (λ x. layered at (Some (T.Union u)) (Some (L.union n x))) (rep (plainly m.ty) v))) got) ∙ was in
-      let a = chained (λ x. layered at (Some (T.Union u)) (Some (L.union n x))) (rep (plainly m.ty) v) t had in
+      let a = chain_some (λ x. layered at (Some (T.Union u)) (Some (L.union n x))) (rep (plainly m.ty) v) t had in
       (a.0, (λ i. rep ((sym y.1 i).0) ((sym y.1 i).1)) ∙ a.1)
 
   inside_parts : (o : Option Data) (q : InSlot) → option_map (λ d. (anything, of_any d)) o ≡ Some q → (d : Data) × (rep q.0 q.1 ≡ Some d)

@@ -8,7 +8,8 @@ use Rattle.ild_edges.specs.Gained.{AreHeld}
 use Rattle.ild_edges.specs.Among.{IsIn}
 use Rattle.ild_bulk.specs.Putting.{StopsAfter}
 use Rattle.ild_bulk.proofs.Childs.{held_among}
-use Rattle.ild_edges.proofs.Among.{IsIn-right, IsIn-of, IsIn-contains}
+use Rattle.ild_edges.proofs.Among.{IsIn-right, IsIn-of}
+use Rattle.ild_data.proofs.AllOf.{all_contained, contains_more}
 use Rattle.ild_data.specs.Key.{same_text}
 use Rattle.ild_data.specs.Spell.{id_of}
 use Rattle.ild_edges.specs.Store.{Keeps, block_at}
@@ -17,7 +18,7 @@ use Rattle.ild_hamt.proofs.Beneath.{among-take}
 use Rattle.ild_script_session.specs.Step.{IsWhole}
 use Rattle.ild_typed.proofs.Rooms.{all_more}
 use Rattle.ild_typed_places.specs.Places.{Place, Places, children_at, each_place, tops}
-use Rattle.ild_typed_places.proofs.Listing.{all_contained, all_mapped, contains_more}
+use Rattle.ild_typed_places.proofs.Listing.{all_mapped}
 use Rattle.ild_path_children.specs.Ways.{AddsPlaced, HasPlace, IsNear, PutsLeaveWays, WayIn}
 use Rattle.ild_path_children.proofs.Topping.{place_more}
 use Rattle.ild_path_children.proofs.Wayward.{Held}

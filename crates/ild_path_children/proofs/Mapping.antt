@@ -1,9 +1,10 @@
 -- The places of a HAMT with an entry put or gone.
-use Rattle.std.proofs.Common.{◌≡◌, ◌-◌, inl, ℕ, suc, cond, List, Option, Some, refl, sym, ap, ◌∙◌, subst}
+use Rattle.std.proofs.Common.{◌≡◌, ◌-◌, inl, ℕ, suc, cond, List, Option, Some, sym, ap, ◌∙◌, subst}
 use Rattle.std.specs.Prelude.{is_some}
 use Rattle.std.specs.FinMap.{put as insert}
 use Rattle.std.specs.List.{AllByRecursion}
 use Rattle.std.specs.Option.{option_map_or}
+use Rattle.ild_data.proofs.AllOf.{all_split}
 use Rattle.ild_data.specs.ByteOrder.{IsInOrder, bytewise, in_byte_order, without as remove}
 use Rattle.ild_data.specs.Data.{Data}
 use Rattle.ild_data.specs.Key.{put, without}
@@ -27,7 +28,7 @@ use Rattle.ild_typed.specs.Represented.{represented, represented_pairs}
 use Rattle.ild_typed.specs.Slots.{element_of}
 use Rattle.ild_typed.proofs.Basics.{map_from}
 use Rattle.ild_typed.proofs.Rooms.{all_more}
-use Rattle.ild_typed.proofs.TreeNodes.{all_split, trie_node}
+use Rattle.ild_typed.proofs.TreeNodes.{trie_node}
 use Rattle.ild_typed_fronts.proofs.Pathing.{pairs_back}
 use Rattle.ild_typed_places.specs.Places.{nowhere, at_key, map_places, places_beneath, places_in, places_in_pairs, places_over}
 use Rattle.ild_typed_places.proofs.Keyed.{InEach, at_keys}

@@ -3,8 +3,8 @@ use Rattle.std.proofs.Common.{ℕ, zero, suc, List, [], ◌∷◌, refl, sym, su
 use Rattle.std.specs.Prelude.{Contains}
 use Rattle.std.specs.List.{AllByRecursion}
 use Rattle.std.proofs.lemmas.List.Elements.{Contains-append_left, Contains-append_right}
+use Rattle.ild_data.proofs.AllOf.{all_split}
 use Rattle.ild_typed.proofs.Rooms.{all_more}
-use Rattle.ild_typed.proofs.TreeNodes.{all_split}
 use Rattle.ild_typed_places.specs.Parts.{LieIn}
 use Rattle.ild_typed_places.specs.Places.{Place, Places, nowhere, place, each_place, joined, places_over, blocks_in, tops}
 use Rattle.ild_typed_places.proofs.Joining.{All}

@@ -2,6 +2,8 @@
 use Rattle.std.proofs.Common.{◌≡◌, ◌≢◌, inl, inr, ⊎_elim, ℕ, zero, suc, ◌+◌, ◌^◌, ◌<◌, ◌==◌, nat_le, Bool, true, false, List, [], ◌∷◌, ◌++◌, length, map, Some, refl, sym, ap, ◌∙◌, subst, arith}
 use Rattle.std.specs.List.{AllByRecursion, range_with_len}
 use Rattle.std.proofs.lemmas.Bool.{lt-leb, le-leb, cases_eq, cases_lt}
+use Rattle.ild_hamt.proofs.Planned.{none-at}
+use Rattle.ild_data.proofs.AllOf.{all_filter}
 use Rattle.ild_data.specs.Data.{Data}
 use Rattle.ild_data.specs.Spell.{spell, id_of}
 use Rattle.ild_data.specs.declared.hamt_shape.HamtShape.{HamtShape}
@@ -15,7 +17,6 @@ use Rattle.ild_hamt_trie.proofs.Node.{slots-node, no_node}
 use Rattle.ild_hamt_trie.proofs.Slots.{all_some-cons}
 use Rattle.ild_hamt_trie.proofs.Way.{way_is}
 use Rattle.ild_typed.proofs.Rooms.{all_more}
-use Rattle.ild_typed.proofs.TreeNodes.{part_in}
 use Rattle.ild_typed_places.specs.Parts.{LieIn}
 use Rattle.ild_typed_places.specs.Places.{Places, nowhere, place, places_over, tops, node_place, bucket_or_node, places_beneath}
 use Rattle.ild_typed_places.proofs.Listing.{in_range}
@@ -28,10 +29,6 @@ use Rattle.ild_path_children.proofs.Topping.{Tops, at_top, beneath_top, each_lie
 
 abbrev pub Held : List (List ℕ) → List ℕ → Type 0
 Held was c = block_at was (id_of c) ≡ Some c
-
-no_way : (h : List ℕ → List ℕ) (p : HamtShape) (k : List ℕ) (depth : ℕ) (es : List (List ℕ × Data)) → way h p k zero depth es ≡ []
-unfolding way
-no_way h p k depth es = refl
 
 module _ (inner : List ℕ → Places) (h : List ℕ → List ℕ) (p : HamtShape) (k : List ℕ) (was : List (List ℕ)) where
   abbrev Part : ℕ → List (List ℕ × Data) → ℕ → List (List ℕ × Data)
@@ -92,7 +89,7 @@ module _ (inner : List ℕ → Places) (h : List ℕ → List ℕ) (p : HamtShap
         subst (Tops Near) (sym (node_stands left depth (Part depth fs i) node.0 lots node.1)) (near, tt))
         (λ small.
         subst (Tops Near) (sym (ap (λ b. bucket_or_node b inner (node_of h p left (depth + 1)) (places_beneath inner h p left (depth + 1)) (Part depth fs i)) (le-leb (length (Part depth fs i)) p.bucket small)))
-        (over_tops Near (λ e. inner e.0) (Part depth fs i) (part_in (λ e. Tops Near (inner e.0)) (λ e. at_depth h p depth e.0 == i) fs inside_near)))
+        (over_tops Near (λ e. inner e.0) (Part depth fs i) (all_filter (λ e. Tops Near (inner e.0)) (λ e. at_depth h p depth e.0 == i) fs inside_near)))
         (cases_lt p.bucket (length (Part depth fs i)))
 
     each_slot : (js : List ℕ) (slots : List TrieSlot) → all_some (map (λ i. slot_of p.bucket (node_of h p left (depth + 1)) (Part depth fs i)) js) ≡ Some slots → AllByRecursion (λ i. Tops Near (Under left depth (Part depth fs i))) js
@@ -130,12 +127,12 @@ module _ (inner : List ℕ → Places) (h : List ℕ → List ℕ) (p : HamtShap
       → LieIn (places_beneath inner h p (suc left) depth fs) home → WayIn home was (way h p k (suc left) depth fs)
   way_in home zero depth es fs ss d had is below inside lies =
       ends home zero depth fs (nat_le (length (On depth fs)) p.bucket) refl
-      (λ none. subst (WayIn home was) (sym (λ i. block_of (no_node h p (depth + 1) (On depth fs) i) ++ no_way h p k (depth + 1) (On depth fs) i)) tt)
+      (λ none. subst (WayIn home was) (sym (λ i. block_of (no_node h p (depth + 1) (On depth fs) i) ++ none-at h p k (depth + 1) (On depth fs) i)) tt)
   way_in home (suc left) depth es fs ss d had is below inside lies =
       let gs : List (List ℕ × Data) = On depth fs in
       let beneath = had-below h p k was left depth es had below in
       let deeper = part-differs (at_depth h p depth) k (at_depth h p depth k) es fs d in
-      let mine : Inside gs = part_in (λ e. Tops (Held was) (inner e.0)) (λ e. at_depth h p depth e.0 == at_depth h p depth k) fs inside in
+      let mine : Inside gs = all_filter (λ e. Tops (Held was) (inner e.0)) (λ e. at_depth h p depth e.0 == at_depth h p depth k) fs inside in
       ⊎_elim
       (λ lots.
       let node = part-there h p k (suc left) depth fs ss is lots in

@@ -2,9 +2,10 @@
 use Rattle.std.proofs.Common.{◌≡◌, ℕ, List, Bool, true, false, Option, Some, None, refl, sym, ◌∙◌, ap, subst}
 use Rattle.std.specs.Prelude.{option_map, slice_get}
 use Rattle.std.proofs.lemmas.Option.{none-some, same_Some}
+use Rattle.ild_path_item.proofs.Viewing.{other}
+use Rattle.ild_data.proofs.Options.{chain_some, map_some}
 use Rattle.ild_data.specs.Data as T
 use Rattle.ild_data.specs.Data.{Data, items_of}
-use Rattle.ild_path_changes.proofs.Lifting.{chained, opened}
 use Rattle.ild_path_delimiter.proofs.Freeing.{edit_free, set_free}
 use Rattle.ild_path_delimiter.proofs.Held.{IsHeld, is_held}
 use Rattle.ild_path_delimiter.specs.TextEdits.{CanEdit, brought, in_last}
@@ -52,35 +53,32 @@ use Rattle.ild_typed.specs.OfType.{OfType, TestsKeys}
 use Rattle.ild_typed.specs.Represented.{represented}
 use Rattle.ild_typed.specs.Schema.{IsSchema}
 use Rattle.ild_typed.specs.Segment.{held_as, member_named, set_part}
-use Rattle.ild_typed.specs.Strings.{in_key_order, listpairs, map_data, stringjoin, stringpairs, text_in}
+use Rattle.ild_typed.specs.Strings.{in_key_order, listpairs, map_data, stringjoin, stringpairs}
 use Rattle.ild_view.specs.Parts.{member_held}
 
 -- any hash, since a text has no nodes
 abbrev H : List ℕ → List ℕ
 H x = x
 
-other : {A : Type 0} (u : Data) (j : List ℕ) → u ≡ T.text j → text_in u ≡ None → A
-other u j e none = absurd (none-some j (sym none ∙ ap text_in e))
-
 text_flat : (o : Option (List ℕ)) (d : Data) → option_map T.text o ≡ Some d → IsFlat d
-text_flat o d e = let x = opened T.text o d e in subst IsFlat x.2 tt
+text_flat o d e = let x = map_some T.text o d e in subst IsFlat x.2 tt
 
 -- ---- forms that stand as texts
 
 struct_whole : (r : StructDef) (form : StructForm) (ds : List (Option Data)) (j : List ℕ) → r.form ≡ form → struct_form form r.fields ds ≡ Some (T.text j) → (v : Value) → is_hole (Some (D.Struct r)) v ≡ false
-struct_whole r S.Map ds j is made v = let x = opened (λ es. map_data (in_key_order es)) (field_entries r.fields ds) (T.text j) made in other (map_data (in_key_order x.0)) j x.2 refl
-struct_whole r S.Tuple ds j is made v = let x = opened (λ xs. T.list (items_of xs)) (tuple_items r.fields ds) (T.text j) made in other (T.list (items_of x.0)) j x.2 refl
-struct_whole r S.ListPairs ds j is made v = let x = opened listpairs (field_entries r.fields ds) (T.text j) made in other (listpairs x.0) j x.2 refl
+struct_whole r S.Map ds j is made v = let x = map_some (λ es. map_data (in_key_order es)) (field_entries r.fields ds) (T.text j) made in other (map_data (in_key_order x.0)) j x.2 refl
+struct_whole r S.Tuple ds j is made v = let x = map_some (λ xs. T.list (items_of xs)) (tuple_items r.fields ds) (T.text j) made in other (T.list (items_of x.0)) j x.2 refl
+struct_whole r S.ListPairs ds j is made v = let x = map_some listpairs (field_entries r.fields ds) (T.text j) made in other (listpairs x.0) j x.2 refl
 struct_whole r (S.StringPairs inner entry) ds j is made (V.struct os) = ap (λ f. tuple_hole f os) is
 struct_whole r (S.StringJoin delim) ds j is made (V.struct os) = ap (λ f. tuple_hole f os) is
 struct_whole r form ds j is made v = refl
 
 struct_flat : (form : StructForm) (fs : List Field) (ds es : List (Option Data)) (j : List ℕ) (d : Data) → struct_form form fs ds ≡ Some (T.text j) → struct_form form fs es ≡ Some d → IsFlat d
-struct_flat S.Map fs ds es j d made new = let x = opened (λ es. map_data (in_key_order es)) (field_entries fs ds) (T.text j) made in other (map_data (in_key_order x.0)) j x.2 refl
-struct_flat S.Tuple fs ds es j d made new = let x = opened (λ xs. T.list (items_of xs)) (tuple_items fs ds) (T.text j) made in other (T.list (items_of x.0)) j x.2 refl
-struct_flat S.ListPairs fs ds es j d made new = let x = opened listpairs (field_entries fs ds) (T.text j) made in other (listpairs x.0) j x.2 refl
-struct_flat (S.StringPairs inner entry) fs ds es j d made new = let x = chained (stringpairs inner entry) (field_entries fs es) d new in text_flat _ d x.2
-struct_flat (S.StringJoin delim) fs ds es j d made new = let x = chained (stringjoin delim) (all_items fs es) d new in text_flat _ d x.2
+struct_flat S.Map fs ds es j d made new = let x = map_some (λ es. map_data (in_key_order es)) (field_entries fs ds) (T.text j) made in other (map_data (in_key_order x.0)) j x.2 refl
+struct_flat S.Tuple fs ds es j d made new = let x = map_some (λ xs. T.list (items_of xs)) (tuple_items fs ds) (T.text j) made in other (T.list (items_of x.0)) j x.2 refl
+struct_flat S.ListPairs fs ds es j d made new = let x = map_some listpairs (field_entries fs ds) (T.text j) made in other (listpairs x.0) j x.2 refl
+struct_flat (S.StringPairs inner entry) fs ds es j d made new = let x = chain_some (stringpairs inner entry) (field_entries fs es) d new in text_flat _ d x.2
+struct_flat (S.StringJoin delim) fs ds es j d made new = let x = chain_some (stringjoin delim) (all_items fs es) d new in text_flat _ d x.2
 
 map_whole : (rows : List Row) (k : TypeNo) (k_at : ℕ) (elem : Slot) (at : ℕ) (form : MapForm) (es : List (List ℕ × Data)) (j : List ℕ) → map_form alone form (L.map es) ≡ Some (T.text j) → (v : Value) → is_exhausted H rows (Some (D.Map k k_at elem at form)) v ≡ false
 map_whole rows k k_at elem at MF.Map es j made v = other (map_data es) j (same_Some (map_data es) (T.text j) made) refl
@@ -92,7 +90,7 @@ map_whole rows k k_at elem at form es j made v = refl
 map_flat : (form : MapForm) (es : List (List ℕ × Data)) (l : Layer Data) (j : List ℕ) (d : Data) → map_form alone form (L.map es) ≡ Some (T.text j) → map_form (whole H) form l ≡ Some d → IsFlat d
 map_flat MF.Map es l j d made new = other (map_data es) j (same_Some (map_data es) (T.text j) made) refl
 map_flat MF.ListPairs es l j d made new = other (listpairs es) j (same_Some (listpairs es) (T.text j) made) refl
-map_flat (MF.StringPairs inner entry) es l j d made new = let x = chained (stringpairs inner entry) (as_map l) d new in text_flat _ d x.2
+map_flat (MF.StringPairs inner entry) es l j d made new = let x = chain_some (stringpairs inner entry) (as_map l) d new in text_flat _ d x.2
 map_flat (MF.Hamt shape) es l j d made new = absurd (none-some (T.text j) made)
 
 passes_by : (test : Option TypeDef → Value → Bool) (rows : List Row) (slot : Slot) (F : Option TypeDef) → form_of rows slot ≡ F → ((v : Value) → test F v ≡ false) → (k : Holder) → LayerPasses test rows slot k
@@ -136,7 +134,7 @@ module _ (rows : List Row) (p : InSlot) (j : List ℕ) (made : represented alone
   stays_flat single v d new = by (way_of (whole H) rows p.0 v d new) where
     by_form : (c : TypeDef) (l : Layer Data) → Held rows c (seen rows p) (T.text j) → composed (whole H) c l ≡ Some d → IsFlat d
     by_form c l (of_fields r os ds e z a b) done =
-        let x = chained (struct_form r.form r.fields) (as_struct l) d (subst (λ c. composed (whole H) c l ≡ Some d) e done) in
+        let x = chain_some (struct_form r.form r.fields) (as_struct l) d (subst (λ c. composed (whole H) c l ≡ Some d) e done) in
         struct_flat r.form r.fields ds x.0 j d b x.2
     by_form c l (of_member u n v m x e z a b g) done = absurd (none-some _ (sym single ∙ ap member_held z ∙ ap (option_map _) a))
     by_form c l (of_entries k k_at elem at form ps es e z a b) done = map_flat form es l j d b (subst (λ c. composed (whole H) c l ≡ Some d) e done)
@@ -167,7 +165,7 @@ module _ (rows : List Row) (p : InSlot) (j : List ℕ) (made : represented alone
     of_union u n v known is (Some w) None lets e = absurd lets
     of_union u n v known is None None lets e = never_deleted (held_as s v (slice_get u.members n)) (sym (ap (λ h. refusal_to_delete h s) is) ∙ lets)
     of_union u n v known is (Some w) (Some t) lets e =
-        let y = opened (λ (p : ℕ × Member). plainly (p.1).ty) (member_named s u.members) lets.0 (sym (ap (λ h. slot_to_set h s) is) ∙ lets.1) in
+        let y = map_some (λ (p : ℕ × Member). plainly (p.1).ty) (member_named s u.members) lets.0 (sym (ap (λ h. slot_to_set h s) is) ∙ lets.1) in
         let m = (y.0).1 in
         let held : represented alone rows (plainly m.ty) w ≡ Some (T.text t) = ap (λ r. represented alone rows r w) y.2 ∙ lets.2 in
         let over = flat_whole H rows (plainly m.ty) w (T.text t) held tt in

@@ -4,8 +4,9 @@ use Rattle.std.specs.List.{AllByRecursion}
 use Rattle.std.specs.Option.{option_map_or}
 use Rattle.std.specs.Prelude.{IsSomeAnd, IsUtf8, slice_get}
 use Rattle.std.proofs.lemmas.Option.{same_Some}
+use Rattle.ild_path_holder.proofs.Walking.{behind_first, passed}
+use Rattle.ild_data.proofs.Options.{chain_some}
 use Rattle.ild_data.specs.Data.{Data, text}
-use Rattle.ild_path_changes.proofs.Lifting.{chained}
 use Rattle.ild_path_delimiter.proofs.Breaking.{lets, set_breaks, text_breaks}
 use Rattle.ild_path_delimiter.proofs.Freeing.{edit_free, set_free}
 use Rattle.ild_path_delimiter.proofs.Quiet.{quiet, texts_break_nothing}
@@ -18,8 +19,8 @@ use Rattle.ild_path_delimiter.specs.declared.delimiter.TextEdit.TheVariants as E
 use Rattle.ild_path_delimiter.specs.declared.level.Level.{Level}
 use Rattle.ild_path_delimiter.specs.declared.level.Level.TheVariants as V
 use Rattle.ild_path_edit.proofs.Making.{texts_from}
-use Rattle.ild_path_edit.proofs.Numbering.{at_next, one, rest_of, segment_there, two}
-use Rattle.ild_path_edit.proofs.Stepping.{last_from, ok_same, part_made, part_typed, passed}
+use Rattle.ild_path_edit.proofs.Numbering.{at_next, one, segment_there, two}
+use Rattle.ild_path_edit.proofs.Stepping.{last_from, ok_same, part_made, part_typed}
 use Rattle.ild_path_edit.specs.Holders.{AreHolders}
 use Rattle.ild_path_edits.proofs.KeepTyped.{of_type_is_kept}
 use Rattle.ild_path_edits.proofs.LayerTesting.{free_is_layered, set_is_judged}
@@ -141,7 +142,7 @@ module _ (rows : List Row) (is_key : ℕ → List ℕ → Bool) (schema : IsSche
       let makes = subst (λ ys. Makes rows is_key edit w p0 ys v) x.is m.makes in
       let utf8 = subst (λ ys. AllByRecursion IsUtf8 ys) x.is (texts_from path n texts) in
       let ok = reached rows is_key p0 s (t ∷ ss) w v edit makes in
-      let y = chained (λ q. holder_at rows q t ss) (part (seen rows p0) s) ok.0 ok.1 in
+      let y = chain_some (λ q. holder_at rows q t ss) (part (seen rows p0) s) ok.0 ok.1 in
       let q : InSlot = y.0 in
       let f : Holder → List ℕ → Holder = in_last edit w in
       let c : Value = changed_in rows f q t ss in
@@ -152,7 +153,7 @@ module _ (rows : List Row) (is_key : ℕ → List ℕ → Bool) (schema : IsSche
       let new = made_typed rows is_key schema keys edit w q (t ∷ ss) c utf8.1 brings it below in
       let same : v ≡ changed_in rows f p0 s (t ∷ ss) = ok_same v (changed_in rows f p0 s (t ∷ ss)) _ makes (makes_rest rows is_key p0 s (t ∷ ss) w v edit makes p0 s (t ∷ ss) refl) in
       let made = part_made rows is_key schema keys p0 q s m.old m.typed y.1 m.was in
-      let rest : drop (suc n) path ≡ t ∷ ss = rest_of path n s (t ∷ ss) x.is in
+      let rest : drop (suc n) path ≡ t ∷ ss = behind_first path n s (t ∷ ss) x.is in
       record {
         segment = s;
         there = segment_there path n s (t ∷ ss) x.is;

@@ -1,15 +1,16 @@
 -- A test of layers that no layer of a value meets: nor does one where a part comes or goes, if the holder doesn't, and the part.
-use Rattle.std.proofs.Common.{◌≡◌, ℕ, List, [], ◌∷◌, length, Bool, true, false, cond, ◌||◌, Option, Some, None, refl, sym, ◌∙◌, ap, subst}
+use Rattle.std.proofs.Common.{◌≡◌, ℕ, List, [], ◌∷◌, length, Bool, true, false, cond, Option, Some, None, refl, sym, ◌∙◌, ap, subst}
 use Rattle.std.specs.Option.{option_map_or}
 use Rattle.std.specs.Prelude.{insert, option_map, remove}
 use Rattle.std.proofs.lemmas.Option.{none-some, same_Some}
+use Rattle.std.proofs.lemmas.Bool.{or_parts, or_from}
 use Rattle.ild_data.specs.Data as T
 use Rattle.ild_data.specs.Key.{same_text}
 use Rattle.ild_path_delimiter.specs.TextEdits.{CanEdit, in_last}
 use Rattle.ild_path_delimiter.specs.declared.delimiter.TextEdit.{TextEdit}
 use Rattle.ild_path_delimiter.specs.declared.delimiter.TextEdit.TheVariants as E
 use Rattle.ild_path_item.proofs.Verbs.{as_set, is_list}
-use Rattle.ild_path_edits.proofs.LayerTesting.{set_is_judged}
+use Rattle.ild_path_edits.proofs.LayerTesting.{set_is_judged, in_slot, slot_in}
 use Rattle.ild_path_edits.proofs.Typing.{Each, each_at, each_inserted, each_removed, each_without}
 use Rattle.ild_path_edits.specs.Along.{IsFree, LayerPasses}
 use Rattle.ild_path_edits.specs.Table.{MayStand, delete_part, insert_part, new_index, slot_to_insert, slot_to_set}
@@ -31,19 +32,6 @@ use Rattle.ild_typed.specs.Schema.{IsSchema}
 use Rattle.ild_typed.specs.Segment.{index_of, set_field, set_part}
 use Rattle.ild_typed.specs.Slots.{element_of, fields_of}
 
-pub neither : (a b : Bool) → (a || b) ≡ false → (a ≡ false) × (b ≡ false)
-neither true b h = absurd cc
-neither false b h = (refl, h)
-
-pub both_false : (a b : Bool) → a ≡ false → b ≡ false → (a || b) ≡ false
-both_false a b p q = λ i. p i || q i
-
-in_slot : (o : Option Slot) (u : Slot) (f : Slot → Bool) → o ≡ Some u → option_map_or f o false ≡ false → f u ≡ false
-in_slot o u f e h = sym (ap (λ p. option_map_or f p false) e) ∙ h
-
-slot_in : (o : Option Slot) (u : Slot) (f : Slot → Bool) → o ≡ Some u → f u ≡ false → option_map_or f o false ≡ false
-slot_in o u f e h = ap (λ p. option_map_or f p false) e ∙ h
-
 optionals_back : (os : Optionals) → optionals_of (optionals_list os) ≡ os
 optionals_back V.no_optionals = refl
 optionals_back (V.absent os) = ap (λ ps. V.absent ps) (optionals_back os)
@@ -57,22 +45,22 @@ module _ (test : Option TypeDef → Value → Bool) (rows : List Row) where
 
   values_each : (u : Slot) (vs : Values) → some_value test rows u vs ≡ false → Each (Free u) (values_list vs)
   values_each u V.no_values h = tt
-  values_each u (V.value v vs) h = let x = neither (some_layer test rows u v) (some_value test rows u vs) h in (x.0, values_each u vs x.1)
+  values_each u (V.value v vs) h = let x = or_parts (some_layer test rows u v) (some_value test rows u vs) h in (x.0, values_each u vs x.1)
 
   each_values : (u : Slot) (xs : List Value) → Each (Free u) xs → some_value test rows u (values_of xs) ≡ false
   each_values u [] h = refl
-  each_values u (x ∷ xs) h = both_false (some_layer test rows u x) (some_value test rows u (values_of xs)) h.0 (each_values u xs h.1)
+  each_values u (x ∷ xs) h = or_from (some_layer test rows u x) (some_value test rows u (values_of xs)) h.0 (each_values u xs h.1)
 
   abbrev EntryFree : Slot → List ℕ × Value → Type 0
   EntryFree u p = Free u p.1
 
   pairs_each : (u : Slot) (ps : Pairs) → some_pair test rows u ps ≡ false → Each (EntryFree u) (pairs_list ps)
   pairs_each u V.no_pairs h = tt
-  pairs_each u (V.pair k v ps) h = let x = neither (some_layer test rows u v) (some_pair test rows u ps) h in (x.0, pairs_each u ps x.1)
+  pairs_each u (V.pair k v ps) h = let x = or_parts (some_layer test rows u v) (some_pair test rows u ps) h in (x.0, pairs_each u ps x.1)
 
   each_pairs : (u : Slot) (xs : List (List ℕ × Value)) → Each (EntryFree u) xs → some_pair test rows u (pairs_of xs) ≡ false
   each_pairs u [] h = refl
-  each_pairs u (x ∷ xs) h = both_false (some_layer test rows u x.1) (some_pair test rows u (pairs_of xs)) h.0 (each_pairs u xs h.1)
+  each_pairs u (x ∷ xs) h = or_from (some_layer test rows u x.1) (some_pair test rows u (pairs_of xs)) h.0 (each_pairs u xs h.1)
 
   either_fields : (fs : List Field) (x y : List (Option Value)) (b : Bool) → some_field test rows fs (optionals_of x) ≡ false → some_field test rows fs (optionals_of y) ≡ false → some_field test rows fs (optionals_of (cond b x y)) ≡ false
   either_fields fs x y true p q = p
@@ -84,34 +72,34 @@ module _ (test : Option TypeDef → Value → Bool) (rows : List Row) where
   field_gone s (f ∷ fs) (V.absent os) h =
       either_fields (f ∷ fs) (None ∷ optionals_list os) (None ∷ set_field s None fs (optionals_list os)) (same_text s f.name) (ap (some_field test rows fs) (optionals_back os) ∙ h) (field_gone s fs os h)
   field_gone s (f ∷ fs) (V.present v os) h =
-      let x = neither (some_layer test rows f.slot v) (some_field test rows fs os) h in
+      let x = or_parts (some_layer test rows f.slot v) (some_field test rows fs os) h in
       either_fields (f ∷ fs) (None ∷ optionals_list os) (Some v ∷ set_field s None fs (optionals_list os)) (same_text s f.name) (ap (some_field test rows fs) (optionals_back os) ∙ x.1)
-      (both_false (some_layer test rows f.slot v) (some_field test rows fs (optionals_of (set_field s None fs (optionals_list os)))) x.0 (field_gone s fs os x.1))
+      (or_from (some_layer test rows f.slot v) (some_field test rows fs (optionals_of (set_field s None fs (optionals_list os)))) x.0 (field_gone s fs os x.1))
 
   -- ---- a part goes
 
   list_deleted : (slot : Slot) (F : Option TypeDef) (vs : Values) (s : List ℕ) → form_of rows slot ≡ F → Free slot (V.list vs) → LayerPasses test rows slot (delete_part (list_holder F vs) s) → Free slot (value_of (delete_part (list_holder F vs) s))
   list_deleted slot (Some (D.List elem at)) vs s e h passes =
       let xs = values_list vs in
-      let old = neither (test (form_of rows slot) (V.list vs)) (option_map_or (λ u. some_value test rows u vs) (element_of (form_of rows slot)) false) h in
+      let old = or_parts (test (form_of rows slot) (V.list vs)) (option_map_or (λ u. some_value test rows u vs) (element_of (form_of rows slot)) false) h in
       let each = values_each elem vs (in_slot (element_of (form_of rows slot)) elem (λ u. some_value test rows u vs) (ap element_of e) old.1) in
-      both_false (test (form_of rows slot) (value_of (delete_part (list_holder (Some (D.List elem at)) vs) s))) _ passes
+      or_from (test (form_of rows slot) (value_of (delete_part (list_holder (Some (D.List elem at)) vs) s))) _ passes
       (slot_in (element_of (form_of rows slot)) elem _ (ap element_of e) (each_values elem _ (each_at (Free elem) (λ i xs. remove xs i) (index_of s) xs each (λ i. each_removed (Free elem) xs i each))))
   list_deleted slot F vs s e h passes = h
 
   map_deleted : (slot : Slot) (F : Option TypeDef) (ps : Pairs) (s : List ℕ) → form_of rows slot ≡ F → Free slot (V.map ps) → LayerPasses test rows slot (delete_part (map_holder F ps) s) → Free slot (value_of (delete_part (map_holder F ps) s))
   map_deleted slot (Some (D.Map k k_at elem at form)) ps s e h passes =
-      let old = neither (test (form_of rows slot) (V.map ps)) (option_map_or (λ u. some_pair test rows u ps) (element_of (form_of rows slot)) false) h in
+      let old = or_parts (test (form_of rows slot) (V.map ps)) (option_map_or (λ u. some_pair test rows u ps) (element_of (form_of rows slot)) false) h in
       let each = pairs_each elem ps (in_slot (element_of (form_of rows slot)) elem (λ u. some_pair test rows u ps) (ap element_of e) old.1) in
-      both_false (test (form_of rows slot) (value_of (delete_part (map_holder (Some (D.Map k k_at elem at form)) ps) s))) _ passes
+      or_from (test (form_of rows slot) (value_of (delete_part (map_holder (Some (D.Map k k_at elem at form)) ps) s))) _ passes
       (slot_in (element_of (form_of rows slot)) elem _ (ap element_of e) (each_pairs elem _ (each_without (EntryFree elem) s (pairs_list ps) each)))
   map_deleted slot F ps s e h passes = h
 
   struct_deleted : (slot : Slot) (F : Option TypeDef) (os : Optionals) (s : List ℕ) → form_of rows slot ≡ F → Free slot (V.struct os) → LayerPasses test rows slot (delete_part (struct_holder F os) s) → Free slot (value_of (delete_part (struct_holder F os) s))
   struct_deleted slot (Some (D.Struct r)) os s e h passes =
-      let old = neither (test (form_of rows slot) (V.struct os)) (some_field test rows (fields_of (form_of rows slot)) os) h in
+      let old = or_parts (test (form_of rows slot) (V.struct os)) (some_field test rows (fields_of (form_of rows slot)) os) h in
       let new = optionals_of (set_field s None r.fields (optionals_list os)) in
-      both_false (test (form_of rows slot) (V.struct new)) (some_field test rows (fields_of (form_of rows slot)) new) passes
+      or_from (test (form_of rows slot) (V.struct new)) (some_field test rows (fields_of (form_of rows slot)) new) passes
       (subst (λ F. some_field test rows (fields_of F) new ≡ false) (sym e) (field_gone s r.fields os (subst (λ F. some_field test rows (fields_of F) os ≡ false) e old.1)))
   struct_deleted slot F os s e h passes = h
 
@@ -144,11 +132,11 @@ module _ (test : Option TypeDef → Value → Bool) (rows : List Row) where
       → Free slot (value_of (insert_part (list_holder F vs) s w))
   list_inserted slot u (Some (D.List elem at)) vs s w e h place fine passes =
       let xs = values_list vs in
-      let old = neither (test (form_of rows slot) (V.list vs)) (option_map_or (λ u. some_value test rows u vs) (element_of (form_of rows slot)) false) h in
+      let old = or_parts (test (form_of rows slot) (V.list vs)) (option_map_or (λ u. some_value test rows u vs) (element_of (form_of rows slot)) false) h in
       let each = values_each elem vs (in_slot (element_of (form_of rows slot)) elem (λ u. some_value test rows u vs) (ap element_of e) old.1) in
       let index = new_index (length xs) s in
       let new : Free elem w = subst (λ u. Free u w) (sym (index_slot elem u index place)) fine in
-      both_false (test (form_of rows slot) (value_of (insert_part (list_holder (Some (D.List elem at)) vs) s w))) _ passes
+      or_from (test (form_of rows slot) (value_of (insert_part (list_holder (Some (D.List elem at)) vs) s w))) _ passes
       (slot_in (element_of (form_of rows slot)) elem _ (ap element_of e) (each_values elem _ (each_at (Free elem) (λ i xs. insert xs i w) index xs each (λ i. each_inserted (Free elem) xs i w each new))))
   list_inserted slot u F vs s w e h place fine passes = h
 

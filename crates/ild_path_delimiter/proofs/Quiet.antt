@@ -2,9 +2,9 @@
 use Rattle.std.proofs.Common.{◌≡◌, ℕ, List, true, false, Option, Some, None, refl, sym, ◌∙◌, ap, subst}
 use Rattle.std.specs.Prelude.{option_map}
 use Rattle.std.proofs.lemmas.Option.{none-some}
+use Rattle.ild_data.proofs.Options.{chain_some, map_some}
 use Rattle.ild_data.specs.Data as T
 use Rattle.ild_data.specs.Data.{Data}
-use Rattle.ild_path_changes.proofs.Lifting.{chained, opened}
 use Rattle.ild_path_delimiter.proofs.Held.{is_held}
 use Rattle.ild_path_delimiter.specs.Laws.{OnlyTextsBreak, TextsBreakNothing}
 use Rattle.ild_path_edits.specs.Along.{LayerPasses}
@@ -40,7 +40,7 @@ texts_break_nothing rows slot v s e = (tree_sound (λ x. x) rows slot v (T.text 
 
 -- what is made as a text is one
 no_text : {A : Type 0} (o : Option (List ℕ)) (t : Data) → option_map T.text o ≡ Some t → text_in t ≡ None → A
-no_text o t e none = let x = opened T.text o t e in absurd (none-some x.0 (sym none ∙ ap text_in (sym x.2)))
+no_text o t e none = let x = map_some T.text o t e in absurd (none-some x.0 (sym none ∙ ap text_in (sym x.2)))
 
 module _ (rows : List Row) where
   passes_by : (slot : Slot) (F : Option TypeDef) → form_of rows slot ≡ F → ((v : Value) → breaks rows F v ≡ false) → (k : Holder) → LayerPasses (breaks rows) rows slot k
@@ -56,8 +56,8 @@ module _ (rows : List Row) where
   struct_quiet r S.Map ds t is made none (V.struct os) = ap (λ f. struct_breaks f r.fields (represented_fields alone rows r.fields os)) is
   struct_quiet r S.Tuple ds t is made none (V.struct os) = ap (λ f. struct_breaks f r.fields (represented_fields alone rows r.fields os)) is
   struct_quiet r S.ListPairs ds t is made none (V.struct os) = ap (λ f. struct_breaks f r.fields (represented_fields alone rows r.fields os)) is
-  struct_quiet r (S.StringPairs inner entry) ds t is made none (V.struct os) = let x = chained (stringpairs inner entry) (field_entries r.fields ds) t made in no_text _ t x.2 none
-  struct_quiet r (S.StringJoin delim) ds t is made none (V.struct os) = let x = chained (stringjoin delim) (all_items r.fields ds) t made in no_text _ t x.2 none
+  struct_quiet r (S.StringPairs inner entry) ds t is made none (V.struct os) = let x = chain_some (stringpairs inner entry) (field_entries r.fields ds) t made in no_text _ t x.2 none
+  struct_quiet r (S.StringJoin delim) ds t is made none (V.struct os) = let x = chain_some (stringjoin delim) (all_items r.fields ds) t made in no_text _ t x.2 none
   struct_quiet r form ds t is made none v = refl
 
   map_quiet : (k : TypeNo) (k_at : ℕ) (elem : Slot) (at : ℕ) (form : MapForm) (es : List (List ℕ × Data)) (t : Data) → map_form alone form (L.map es) ≡ Some t → text_in t ≡ None → (v : Value) → breaks rows (Some (D.Map k k_at elem at form)) v ≡ false

@@ -3,7 +3,7 @@ use Rattle.std.proofs.Common.{◌≡◌, ℕ, List, [], ◌∷◌, Bool, Option,
 use Rattle.std.specs.List.{AllByRecursion}
 use Rattle.std.specs.Prelude.{IsUtf8, Ok, option_and_then}
 use Rattle.std.proofs.lemmas.Option.{none-some, same_Some}
-use Rattle.ild_path_changes.proofs.Lifting.{chained}
+use Rattle.ild_data.proofs.Options.{chain_some}
 use Rattle.ild_path_delimiter.specs.TextEdits.{CanEdit, TextIs, edit_of, in_last}
 use Rattle.ild_path_delimiter.specs.declared.delimiter.TextEdit.{TextEdit}
 use Rattle.ild_path_delimiter.specs.declared.delimiter.TextEdit.TheVariants as E
@@ -28,7 +28,7 @@ Makes rows is_key edit w p path c = change rows is_key p (edit_of edit w path) �
 seen_last : (rows : List Row) (p : InSlot) (s : List ℕ) (ss : List (List ℕ)) (l : Holder × List ℕ) → last_holder rows p s ss ≡ Some l → (q : InSlot) × (holder_at rows p s ss ≡ Some q) × ((seen rows q, last_of s ss) ≡ l)
 seen_last rows p s [] l h = (p, refl, same_Some (seen rows p, s) l h)
 seen_last rows p s (t ∷ ss) l h =
-    let x = chained (λ r. last_holder rows r t ss) (part (seen rows p) s) l h in
+    let x = chain_some (λ r. last_holder rows r t ss) (part (seen rows p) s) l h in
     let y = seen_last rows x.0 t ss l x.2 in
     (y.0, ap (option_and_then (λ r. holder_at rows r t ss)) x.1 ∙ y.1, y.2)
 

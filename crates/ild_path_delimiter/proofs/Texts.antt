@@ -3,12 +3,13 @@ use Rattle.std.proofs.Common.{◌≡◌, ℕ, zero, suc, List, [], ◌∷◌, �
 use Rattle.std.specs.Option.{option_map_or}
 use Rattle.std.specs.Prelude.{option_and_then, option_map}
 use Rattle.std.proofs.lemmas.Option.{none-some, same_Some}
+use Rattle.ild_data.proofs.Options.{chain_some, map_some}
 use Rattle.ild_data.specs.Data as T
 use Rattle.ild_data.specs.Data.{Data, items_of}
 use Rattle.ild_data.specs.Key.{put, same_text, value_at}
 use Rattle.ild_path_changes.proofs.Each.{each_pair-at, joined as both}
 use Rattle.ild_path_changes.proofs.Fields.{written-at}
-use Rattle.ild_path_changes.proofs.Lifting.{chained, field_data-each, opened, present_field, written_is}
+use Rattle.ild_path_changes.proofs.Lifting.{field_data-each, present_field, written_is}
 use Rattle.ild_path_changes.specs.Places.{field_data, field_named, field_place, left_out, written}
 use Rattle.ild_path_delimiter.proofs.Held.{is_held}
 use Rattle.ild_path_delimiter.specs.Laws.{TextsOfTexts}
@@ -70,19 +71,19 @@ pair_at : (k : List ℕ) (ms : List (List ℕ × Data)) (ps : List (List ℕ × 
 pair_at k [] ps d h e = absurd (none-some d e)
 pair_at k (m ∷ ms) ps d h e =
     let j = both (option_map {U = List ℕ × List ℕ} (λ s. (m.0, s)) (text_in m.1)) (text_pairs ms) ps h in
-    let x = opened {Y = List ℕ × List ℕ} (λ s. (m.0, s)) (text_in m.1) j.first j.is_first in
+    let x = map_some {Y = List ℕ × List ℕ} (λ s. (m.0, s)) (text_in m.1) j.first j.is_first in
     pair_step m (value_at k ms) x.0 d (same_text k m.0) e x.1 (λ g. pair_at k ms j.rest d j.is_rest g)
 
 paired : (inner entry k : List ℕ) (es : List (List ℕ × Data)) (t u : Data) → stringpairs inner entry es ≡ Some u → value_at k es ≡ Some t → IsText t
 paired inner entry k es t u made there =
-    let y = opened T.text (option_and_then (join_pairs inner entry) (text_pairs es)) u made in
-    let z = chained (join_pairs inner entry) (text_pairs es) y.0 y.1 in
+    let y = map_some T.text (option_and_then (join_pairs inner entry) (text_pairs es)) u made in
+    let z = chain_some (join_pairs inner entry) (text_pairs es) y.0 y.1 in
     pair_at k es z.0 t z.1 there
 
 joined_at : (delim : List ℕ) (ds : List Data) (i : ℕ) (t u : Data) → stringjoin delim ds ≡ Some u → slice_get ds i ≡ Some t → IsText t
 joined_at delim ds i t u made there =
-    let y = opened T.text (option_and_then (join delim) (texts_in ds)) u made in
-    let z = chained (join delim) (texts_in ds) y.0 y.1 in
+    let y = map_some T.text (option_and_then (join delim) (texts_in ds)) u made in
+    let z = chain_some (join delim) (texts_in ds) y.0 y.1 in
     text_at ds z.0 i t z.1 there
 
 -- ---- structs
@@ -96,7 +97,7 @@ all_item s [] ds xs t h e = absurd (none-some t e)
 all_item s (f ∷ fs) [] xs t h e = absurd (none-some t e)
 all_item s (f ∷ fs) (None ∷ os) xs t h e = absurd (none-some xs h)
 all_item s (f ∷ fs) (Some a ∷ os) xs t h e =
-    let x = opened (λ ds. a ∷ ds) (all_items fs os) xs h in
+    let x = map_some (λ ds. a ∷ ds) (all_items fs os) xs h in
     subst (λ ys. slice_get ys (field_place s (f ∷ fs)) ≡ Some t) x.2 (item_first a t (field_data s fs os) x.0 (field_place s fs) (same_text s f.name) e (λ g. all_item s fs os x.0 t x.1 g))
 
 module _ (fs : List Field) (ds : List (Option Data)) (t u : Data) (s j : List ℕ) (g : Field) (named : field_named s fs ≡ Some g) (held : field_data s fs ds ≡ Some t) (out : left_out g t ≡ false) (is : text_in u ≡ Some j) where
@@ -106,14 +107,14 @@ module _ (fs : List Field) (ds : List (Option Data)) (t u : Data) (s j : List �
       ap (value_at (field_text g)) w.same ∙ written-at left_out s fs ds g clear.apart named ∙ ap (written left_out g) held ∙ ap (λ b. cond b None (Some t)) out
 
   in_struct : (form : StructForm) → struct_form form fs ds ≡ Some u → ClearStruct form fs → IsText t
-  in_struct S.Map made clear = let x = opened (λ es. map_data (in_key_order es)) (field_entries fs ds) u made in other (map_data (in_key_order x.0)) u j x.2 refl is
-  in_struct S.Tuple made clear = let x = opened (λ xs. T.list (items_of xs)) (tuple_items fs ds) u made in other (T.list (items_of x.0)) u j x.2 refl is
-  in_struct S.ListPairs made clear = let x = opened listpairs (field_entries fs ds) u made in other (listpairs x.0) u j x.2 refl is
+  in_struct S.Map made clear = let x = map_some (λ es. map_data (in_key_order es)) (field_entries fs ds) u made in other (map_data (in_key_order x.0)) u j x.2 refl is
+  in_struct S.Tuple made clear = let x = map_some (λ xs. T.list (items_of xs)) (tuple_items fs ds) u made in other (T.list (items_of x.0)) u j x.2 refl is
+  in_struct S.ListPairs made clear = let x = map_some listpairs (field_entries fs ds) u made in other (listpairs x.0) u j x.2 refl is
   in_struct (S.StringPairs inner entry) made clear =
-      let x = chained (stringpairs inner entry) (field_entries fs ds) u made in
+      let x = chain_some (stringpairs inner entry) (field_entries fs ds) u made in
       paired inner entry (field_text g) x.0 t u x.2 (entry_there clear.0 x.0 x.1)
   in_struct (S.StringJoin delim) made clear =
-      let x = chained (stringjoin delim) (all_items fs ds) u made in
+      let x = chain_some (stringjoin delim) (all_items fs ds) u made in
       joined_at delim x.0 (field_place s fs) t u x.2 (all_item s fs ds x.0 t x.1 held)
 
 -- ---- unions and maps
@@ -121,27 +122,27 @@ module _ (fs : List Field) (ds : List (Option Data)) (t u : Data) (s j : List �
 in_marked : (form : UnionForm) (t u : Data) (name j : List ℕ) → marked_form form t name ≡ Some u → text_in u ≡ Some j → IsText t
 in_marked U.Keyed t u name j made is = other (map_data ((name, t) ∷ [])) u j (same_Some (map_data ((name, t) ∷ [])) u made) refl is
 in_marked U.Kinded t u name j made is = absurd (none-some u made)
-in_marked U.StringPrefix t u name j made is = let x = opened (λ s. T.text (name ++ s)) (text_in t) u made in (x.0, x.1)
+in_marked U.StringPrefix t u name j made is = let x = map_some (λ s. T.text (name ++ s)) (text_in t) u made in (x.0, x.1)
 in_marked U.BytesPrefix t u name j made is =
-    let f = chained (λ front. option_map (λ s. T.bytes (front ++ s)) (bytes_in t)) (bytes_of_hex name) u made in
-    let x = opened (λ s. T.bytes (f.0 ++ s)) (bytes_in t) u f.2 in
+    let f = chain_some (λ front. option_map (λ s. T.bytes (front ++ s)) (bytes_in t)) (bytes_of_hex name) u made in
+    let x = map_some (λ s. T.bytes (f.0 ++ s)) (bytes_in t) u f.2 in
     other (T.bytes (f.0 ++ x.0)) u j x.2 refl is
 in_marked (U.Envelope key content) t u name j made is = let ms = put key (T.text name) ((content, t) ∷ []) in other (map_data ms) u j (same_Some (map_data ms) u made) refl is
 in_marked (U.Inline key) t u name j made is =
-    let x = chained (inlined key name) (members_in t) u made in
+    let x = chain_some (inlined key name) (members_in t) u made in
     let y = if_true _ (Some (map_data (put key (T.text name) x.0))) u x.2 in
     other (map_data (put key (T.text name) x.0)) u j (same_Some (map_data (put key (T.text name) x.0)) u y) refl is
 
 in_union : (form : UnionForm) (t u : Data) (m : Member) (j : List ℕ) → member_form form t m ≡ Some u → text_in u ≡ Some j → IsText t
 in_union U.Kinded t u m j made is =
-    let x = chained _ (mark_kind m.mark) u made in
+    let x = chain_some _ (mark_kind m.mark) u made in
     let y = if_true _ (Some t) u x.2 in
     (j, ap text_in (same_Some t u y) ∙ is)
-in_union U.Keyed t u m j made is = let x = chained (marked_form U.Keyed t) (mark_text m.mark) u made in in_marked U.Keyed t u x.0 j x.2 is
-in_union U.StringPrefix t u m j made is = let x = chained (marked_form U.StringPrefix t) (mark_text m.mark) u made in in_marked U.StringPrefix t u x.0 j x.2 is
-in_union U.BytesPrefix t u m j made is = let x = chained (marked_form U.BytesPrefix t) (mark_text m.mark) u made in in_marked U.BytesPrefix t u x.0 j x.2 is
-in_union (U.Envelope key content) t u m j made is = let x = chained (marked_form (U.Envelope key content) t) (mark_text m.mark) u made in in_marked (U.Envelope key content) t u x.0 j x.2 is
-in_union (U.Inline key) t u m j made is = let x = chained (marked_form (U.Inline key) t) (mark_text m.mark) u made in in_marked (U.Inline key) t u x.0 j x.2 is
+in_union U.Keyed t u m j made is = let x = chain_some (marked_form U.Keyed t) (mark_text m.mark) u made in in_marked U.Keyed t u x.0 j x.2 is
+in_union U.StringPrefix t u m j made is = let x = chain_some (marked_form U.StringPrefix t) (mark_text m.mark) u made in in_marked U.StringPrefix t u x.0 j x.2 is
+in_union U.BytesPrefix t u m j made is = let x = chain_some (marked_form U.BytesPrefix t) (mark_text m.mark) u made in in_marked U.BytesPrefix t u x.0 j x.2 is
+in_union (U.Envelope key content) t u m j made is = let x = chain_some (marked_form (U.Envelope key content) t) (mark_text m.mark) u made in in_marked (U.Envelope key content) t u x.0 j x.2 is
+in_union (U.Inline key) t u m j made is = let x = chain_some (marked_form (U.Inline key) t) (mark_text m.mark) u made in in_marked (U.Inline key) t u x.0 j x.2 is
 
 in_form : (form : MapForm) (k : List ℕ) (es : List (List ℕ × Data)) (t u : Data) (j : List ℕ) → map_form alone form (L.map es) ≡ Some u → value_at k es ≡ Some t → text_in u ≡ Some j → IsText t
 in_form MF.Map k es t u j made there is = other (map_data es) u j (same_Some (map_data es) u made) refl is

@@ -5,6 +5,7 @@ use Rattle.std.specs.Prelude.{Err, IsUtf8, Ok, Result, slice_get}
 use Rattle.ild_cbor.specs.Block.{IsBlockOf}
 use Rattle.ild_cbor.specs.Nodes.{IsRoot, HasData}
 use Rattle.ild_cbor.specs.declared.node.Node.{Node}
+use Rattle.ild_path_holder.proofs.Walking.{behind_first}
 use Rattle.ild_data.specs.Data.{Data}
 use Rattle.ild_data.specs.Spell.{spell}
 use Rattle.ild_data.specs.Tree.{IsTree}
@@ -14,7 +15,7 @@ use Rattle.ild_path_block.specs.Items.{becoming}
 use Rattle.ild_path_block.specs.Spliced.{SplicedAs, IsReplaced}
 use Rattle.ild_path_block.specs.declared.answer.Replaced.{Replaced}
 use Rattle.ild_path_block.specs.declared.edit.PartEdit.{PartEdit}
-use Rattle.ild_path_edit.proofs.Numbering.{at_next, known_at, one, rest_of, segment_there, two}
+use Rattle.ild_path_edit.proofs.Numbering.{at_next, known_at, one, segment_there, two}
 use Rattle.ild_path_edit.proofs.Stepping.{Next, at_last, part_made, part_typed, to_next}
 use Rattle.ild_path_edit.specs.Made.{MakesBlock}
 use Rattle.ild_path_edit.specs.Holders.{AreHolders, IsMade, PartIs}
@@ -81,7 +82,7 @@ module _ (rows : List Row) (is_key : ℕ → List ℕ → Bool) (schema : IsSche
       let n : Next rows is_key schema keys edit w m.holder m.typed m.old m.was x.first x.second x.rest d =
       to_next rows is_key schema keys edit w m.holder m.typed m.old m.was x.first x.second x.rest m.value d (subst (λ ys. AllByRecursion IsUtf8 ys) x.is (texts_from path k texts)) (subst (λ ys. BringsPart rows m.holder ys edit w) x.is m.brings)
       (subst (λ ys. EditMakes rows is_key edit w m.holder ys m.value) x.is m.makes) m.shown in
-      let rest : drop (suc k) path ≡ x.second ∷ x.rest = rest_of path k x.first (x.second ∷ x.rest) x.is in
+      let rest : drop (suc k) path ≡ x.second ∷ x.rest = behind_first path k x.first (x.second ∷ x.rest) x.is in
       record {
         holder = m.holder;
         leads = m.leads;

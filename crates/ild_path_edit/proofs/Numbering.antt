@@ -2,10 +2,10 @@
 use Rattle.std.proofs.Common.{◌≡◌, ◌<◌, ℕ, zero, suc, List, [], ◌∷◌, length, take, drop, Bool, Some, refl, ◌∙◌, ap, subst, arith}
 use Rattle.std.specs.Prelude.{option_and_then, slice_get}
 use Rattle.std.proofs.lemmas.Option.{same_Some}
+use Rattle.ild_data.proofs.Options.{chain_some}
 use Rattle.ild_data.specs.Data.{Data}
 use Rattle.ild_path_block.specs.Edits.{BringsPart}
 use Rattle.ild_path_block.specs.declared.edit.PartEdit.{PartEdit}
-use Rattle.ild_path_changes.proofs.Lifting.{chained}
 use Rattle.ild_path_edit.proofs.Stepping.{brings_from, part_made, part_typed}
 use Rattle.ild_schema.specs.Value.{Value}
 use Rattle.ild_schema.specs.declared.row.Row.{Row}
@@ -23,12 +23,6 @@ segment_there [] zero s rest e = absurd cc
 segment_there [] (suc k) s rest e = absurd cc
 segment_there (x ∷ xs) zero s rest e = let same : x ≡ s = cc e in ap (λ y. Some y) same
 segment_there (x ∷ xs) (suc k) s rest e = segment_there xs k s rest e
-
-pub rest_of : (path : List (List ℕ)) (k : ℕ) (s : List ℕ) (rest : List (List ℕ)) → drop k path ≡ s ∷ rest → drop (suc k) path ≡ rest
-rest_of [] zero s rest e = absurd cc
-rest_of [] (suc k) s rest e = absurd cc
-rest_of (x ∷ xs) zero s rest e = cc e
-rest_of (x ∷ xs) (suc k) s rest e = rest_of xs k s rest e
 
 -- the segments from one on, which is not the last
 pub record Two (path : List (List ℕ)) (k : ℕ) : Type 0 where
@@ -61,7 +55,7 @@ module _ (rows : List Row) where
       let name : x ≡ s = cc e in
       ap (option_and_then (λ (q : InSlot). Some q)) (ap (part (seen rows p)) name ∙ ap (λ y. part (seen rows y) s) (same_Some p q a) ∙ there)
   at_next (x ∷ xs) (suc k) p q r s rest a e there =
-      let y = chained (λ z. at rows z (take k xs)) (part (seen rows p) x) q a in
+      let y = chain_some (λ z. at rows z (take k xs)) (part (seen rows p) x) q a in
       ap (option_and_then (λ z. at rows z (take (suc k) xs))) y.1 ∙ at_next xs k y.0 q r s rest y.2 e there
 
   module _ (is_key : ℕ → List ℕ → Bool) (schema : IsSchema rows) (keys : TestsKeys rows is_key) (edit : PartEdit) (w : Value) where
@@ -77,7 +71,7 @@ module _ (rows : List Row) where
     known_at (s ∷ ss) zero p q less a is = subst (Known (s ∷ ss)) (same_Some p q a) is
     known_at (s ∷ []) (suc n) p q less a is = absurd (omega (arith, less))
     known_at (s ∷ t ∷ ss) (suc n) p q less a is =
-        let x = chained (λ z. at rows z (take n (t ∷ ss))) (part (seen rows p) s) q a in
+        let x = chain_some (λ z. at rows z (take n (t ∷ ss))) (part (seen rows p) s) q a in
         let typed = part_typed rows is_key schema keys p x.0 s is.typed x.1 in
         let made = part_made rows is_key schema keys p x.0 s is.old is.typed x.1 is.was in
         known_at (t ∷ ss) n x.0 q (omega (arith, less)) x.2 (record { typed = typed; old = made.0; was = made.1; brings = brings_from rows p x.0 s t ss edit w x.1 is.brings })

@@ -4,6 +4,8 @@ use Rattle.std.specs.List.{AllByRecursion}
 use Rattle.std.specs.Option.{option_map_or}
 use Rattle.std.specs.Prelude.{Err, IsUtf8, Ok, Result, option_and_then}
 use Rattle.std.proofs.lemmas.Option.{same_Some}
+use Rattle.ild_path_holder.proofs.Walking.{passed}
+use Rattle.ild_data.proofs.Options.{chain_some}
 use Rattle.ild_data.specs.Data.{Data}
 use Rattle.ild_data.specs.Spell.{spell}
 use Rattle.ild_path_block.proofs.Allowing.{IsAllowed, allowed, makes_rest}
@@ -13,7 +15,6 @@ use Rattle.ild_path_block.specs.Items.{becoming}
 use Rattle.ild_path_block.specs.declared.edit.PartEdit.{PartEdit}
 use Rattle.ild_path_block.specs.declared.edit.PartEdit.TheVariants as E
 use Rattle.ild_path_changes.proofs.HaveTrees.{has_trees}
-use Rattle.ild_path_changes.proofs.Lifting.{chained}
 use Rattle.ild_path_changes.proofs.Represented.{represents}
 use Rattle.ild_path_changes.proofs.Represents.{Represents}
 use Rattle.ild_path_changes.specs.LiftLaws.{of_fronts}
@@ -25,7 +26,6 @@ use Rattle.ild_path_edits.proofs.Paths.{inside_of}
 use Rattle.ild_path_edits.specs.Edit.{del_at, ins_at, set_at}
 use Rattle.ild_path_edits.specs.Table.{slot_to_insert, slot_to_set}
 use Rattle.ild_path_sizes.proofs.Longer.{no_longer}
-use Rattle.ild_path_holder.proofs.Written.{has_part}
 use Rattle.ild_path_holder.specs.Along.{holder_at, is_holder}
 use Rattle.ild_schema.proofs.Legibly.{legible}
 use Rattle.ild_schema.specs.Value.{Value}
@@ -48,11 +48,6 @@ ok_same c d (Err refusal) a b = absurd cc
 -- the last holder of a path is that of the path from the part at its first segment
 pub last_from : (rows : List Row) (p q : InSlot) (s t : List ℕ) (ss : List (List ℕ)) → part (seen rows p) s ≡ Some q → last_holder rows p s (t ∷ ss) ≡ last_holder rows q t ss
 last_from rows p q s t ss e = ap (option_and_then (λ q. last_holder rows q t ss)) e
-
--- each before the last holder is a holder
-pub passed : (rows : List Row) (q l : InSlot) (t : List ℕ) (ts : List (List ℕ)) → holder_at rows q t ts ≡ Some l → is_holder (seen rows l) ≡ true → is_holder (seen rows q) ≡ true
-passed rows q l t [] at holds = ap (λ r. is_holder (seen rows r)) (same_Some q l at) ∙ holds
-passed rows q l t (u ∷ us) at holds = let x = chained (λ r. holder_at rows r u us) (part (seen rows q) t) l at in has_part (seen rows q) t x.0 x.1
 
 -- what an edit brings is brought to the part at the first segment
 pub brings_from : (rows : List Row) (p q : InSlot) (s t : List ℕ) (ss : List (List ℕ)) (edit : PartEdit) (w : Value) → part (seen rows p) s ≡ Some q → BringsPart rows p (s ∷ t ∷ ss) edit w → BringsPart rows q (t ∷ ss) edit w
@@ -102,7 +97,7 @@ module _ (rows : List Row) (is_key : ℕ → List ℕ → Bool) (schema : IsSche
       pub to_next : (s t : List ℕ) (ss : List (List ℕ)) (c : Value) (d : Data) → AllByRecursion IsUtf8 (s ∷ t ∷ ss) → BringsPart rows p (s ∷ t ∷ ss) edit w → EditMakes rows is_key edit w p (s ∷ t ∷ ss) c → Rep p.0 c d → Next s t ss d
       to_next s t ss c d texts brings makes shown =
           let ok : IsAllowed rows p s (t ∷ ss) edit w = allowed rows is_key p s (t ∷ ss) w c edit brings makes in
-          let x = chained (λ q. holder_at rows q t ss) (part (seen rows p) s) ok.last ok.at in
+          let x = chain_some (λ q. holder_at rows q t ss) (part (seen rows p) s) ok.last ok.at in
           let q : InSlot = x.0 in
           let f : Holder → List ℕ → Holder = (in_last edit w).made in
           let v : Value = changed_in rows f q t ss in

@@ -3,7 +3,8 @@ use Rattle.std.proofs.Common.{◌≡◌, ◌<◌, ◌≤◌, ◌+◌, ℕ, zero,
 use Rattle.std.specs.Prelude.{IsSomeAnd, option_and_then, slice_get}
 use Rattle.std.proofs.lemmas.Bool.{cases_lt}
 use Rattle.std.proofs.lemmas.Option.{none-some, same_Some}
-use Rattle.ild_path_changes.proofs.Lifting.{chained}
+use Rattle.ild_path_holder.proofs.Walking.{handed}
+use Rattle.ild_data.proofs.Options.{chain_some}
 use Rattle.ild_path_edit.specs.Holders.{AreHolders}
 use Rattle.ild_schema.specs.Value.{Value}
 use Rattle.ild_schema.specs.declared.row.Row.{Row}
@@ -26,9 +27,6 @@ segment_is [] k x s e is = absurd (none-some s e)
 segment_is (y ∷ ys) zero x s e is = is ∙ same_Some y s e
 segment_is (y ∷ ys) (suc k) x s e is = segment_is ys k x s e is
 
-pub segment_at : (all path : List (List ℕ)) (k : ℕ) (x y : List ℕ) → x ≡ y → y ≡ get_or all k y → all ≡ path → x ≡ get_or path k x
-segment_at all path k x y same is whole = same ∙ is ∙ ap (λ (zs : List (List ℕ)). get_or zs k y) whole ∙ ap (get_or path k) (sym same)
-
 -- ---- a path that leads to a holder
 
 -- leads to those before it
@@ -37,7 +35,7 @@ before rows path n zero p q le a = (p, refl)
 before rows [] n (suc m) p q le a = (p, refl)
 before rows (x ∷ xs) zero (suc m) p q le a = absurd (omega (arith, le))
 before rows (x ∷ xs) (suc n) (suc m) p q le a =
-    let y = chained (λ z. at rows z (take n xs)) (part (seen rows p) x) q a in
+    let y = chain_some (λ z. at rows z (take n xs)) (part (seen rows p) x) q a in
     let more = before rows xs n m y.0 q (omega (arith, le)) y.2 in
     (more.0, ap (option_and_then (λ z. at rows z (take m xs))) y.1 ∙ more.1)
 
@@ -52,10 +50,10 @@ record Came (rows : List Row) (path : List (List ℕ)) (k : ℕ) (p q : InSlot) 
 came : (rows : List Row) (path : List (List ℕ)) (k : ℕ) (p q : InSlot) → k < length path → at rows p (take (suc k) path) ≡ Some q → Came rows path k p q
 came rows [] k p q less a = absurd (omega (arith, less))
 came rows (x ∷ xs) zero p q less a =
-    let y = chained (λ (z : InSlot). Some z) (part (seen rows p) x) q a in
+    let y = chain_some (λ (z : InSlot). Some z) (part (seen rows p) x) q a in
     record { holder = p; segment = x; leads = refl; is = refl; there = y.1 ∙ y.2 }
 came rows (x ∷ xs) (suc k) p q less a =
-    let y = chained (λ z. at rows z (take (suc k) xs)) (part (seen rows p) x) q a in
+    let y = chain_some (λ z. at rows z (take (suc k) xs)) (part (seen rows p) x) q a in
     let more = came rows xs k y.0 q (omega (arith, less)) y.2 in
     record { holder = more.holder; segment = more.segment; leads = ap (option_and_then (λ z. at rows z (take k xs))) y.1 ∙ more.leads; is = more.is; there = more.there }
 
@@ -63,12 +61,6 @@ came rows (x ∷ xs) (suc k) p q less a =
 
 abbrev pub PartClause : View → List ℕ → Option View → Type 0
 PartClause v s r = (f : Value) → IsView v f → HandsOut (table_of v) (part (seen (table_of v) (slot_of v, f)) s) r
-
-handed : (rows : List Row) (o : Option InSlot) (q : InSlot) (r : Option View) → o ≡ Some q → HandsOut rows o r → IsSomeAnd r (IsPartView rows q)
-handed rows o q r e h = by r (subst (λ p. HandsOut rows p r) e h) where
-  by : (r : Option View) → HandsOut rows (Some q) r → IsSomeAnd r (IsPartView rows q)
-  by None h = absurd h
-  by (Some v) h = h
 
 part_view : (rows : List Row) (p q : InSlot) (v : View) (s : List ℕ) (r : Option View) → IsPartView rows p v → PartClause v s r → part (seen rows p) s ≡ Some q → IsSomeAnd r (IsPartView rows q)
 part_view rows p q v s r view all there =

@@ -4,6 +4,7 @@ use Rattle.std.specs.Prelude.{IsSomeAnd, IsUtf8, slice_set, option_map, option_a
 use Rattle.std.specs.List.{AllByRecursion}
 use Rattle.std.specs.Option.{option_map_or}
 use Rattle.std.proofs.lemmas.Option.{same_Some, none-some}
+use Rattle.ild_schema.proofs.Parts.{values_list-values_of, pairs_list-pairs_of, optionals_list-optionals_of}
 use Rattle.ild_data.specs.Data as D
 use Rattle.ild_data.specs.Data.{Data, Items, no_items, item, Members, no_members, member as entry, items_list, items_of, members_list, members_of, depth, items_depth, members_depth}
 use Rattle.ild_data.specs.Key.{same_text, value_at}
@@ -40,7 +41,6 @@ use Rattle.ild_path_edits.specs.AlongLaws.{DepthAlong}
 use Rattle.ild_typed.specs.OfType.{OfType}
 use Rattle.ild_typed.proofs.FormOf.{there_entries, list_form, map_form, struct_form, union_form, any_form}
 use Rattle.ild_path_edits.proofs.Judging.{judged_by_tests}
-use Rattle.ild_typed.proofs.Lists.{values_list-values_of, pairs_list-pairs_of, optionals_list-optionals_of}
 use Rattle.ild_path_edits.proofs.KeepTyped.{of_type_is_kept}
 use Rattle.ild_value_meaning.proofs.Told.{told}
 use Rattle.ild_typed.proofs.OneLayer.{in_layer, past_over, from_form}

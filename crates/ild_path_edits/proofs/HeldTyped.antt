@@ -4,6 +4,7 @@ use Rattle.std.specs.Prelude.{slice_set, insert, remove, is_some, option_map, op
 use Rattle.std.specs.Option.{option_map_or}
 use Rattle.std.specs.Cmp.Lexicographic.{same_text as text_same}
 use Rattle.std.proofs.lemmas.Option.{same_Some, none-some}
+use Rattle.ild_schema.proofs.Parts.{pairs_list-pairs_of}
 use Rattle.ild_data.specs.Data as D
 use Rattle.ild_data.specs.Data.{Data}
 use Rattle.ild_data.specs.Key.{same_text, value_at, Rises}
@@ -27,7 +28,6 @@ use Rattle.ild_script.specs.declared.reply.No.{No}
 use Rattle.ild_typed.specs.Holder.{Holder, fields, member, entries, elements, any_entries, any_elements, nothing, is_paired, list_holder, map_holder, struct_holder, union_holder, holder_of, value_of, of_any, data_in}
 use Rattle.ild_typed.specs.Segment.{part, set_part, set_field, field_at, index_of, member_named, held_as}
 use Rattle.ild_typed.specs.At.{InSlot, seen}
-use Rattle.ild_typed.proofs.Lists.{pairs_list-pairs_of}
 use Rattle.ild_value_meaning.specs.Meant.{is_null}
 use Rattle.ild_value_meaning.proofs.ByParts.{ByParts, AreInOrder}
 use Rattle.ild_value_meaning.proofs.Members.{member-named}
@@ -61,7 +61,7 @@ pub indexed : {X : Type 0} (xs : List X) (o : Option ℕ) (x : X) → option_and
 indexed xs None x h = absurd (none-some x h)
 indexed xs (Some i) x h = (i, h)
 
-new_key : (b : Bool) (slot r : Slot) → cond b None (Some slot) ≡ Some r → Some slot ≡ Some r
+pub new_key : (b : Bool) (slot r : Slot) → cond b None (Some slot) ≡ Some r → Some slot ≡ Some r
 new_key true slot r e = absurd (none-some r e)
 new_key false slot r e = e
 

@@ -3,6 +3,7 @@ use Rattle.std.proofs.Common.{◌≡◌, ◌≢◌, ℕ, List, slice_get, Option
 use Rattle.std.specs.Prelude.{slice_set, option_map, option_and_then, decimal}
 use Rattle.std.specs.Option.{option_map_or}
 use Rattle.std.proofs.lemmas.Option.{same_Some, none-some}
+use Rattle.ild_schema.proofs.Parts.{values_list-values_of, pairs_list-pairs_of, optionals_list-optionals_of}
 use Rattle.ild_data.specs.Data as D
 use Rattle.ild_data.specs.Data.{Data, items_of, items_list, members_of, members_list}
 use Rattle.ild_data.proofs.Lists.{items_list-items_of, members_list-members_of}
@@ -18,7 +19,6 @@ use Rattle.ild_schema.specs.Slots.{form_of, plainly}
 use Rattle.ild_typed.proofs.Index.{index-is}
 use Rattle.ild_splice_changes.proofs.Maps.{put-there, put-other}
 use Rattle.ild_value_meaning.proofs.Members.{member-named}
-use Rattle.ild_typed.proofs.Lists.{values_list-values_of, pairs_list-pairs_of, optionals_list-optionals_of}
 use Rattle.ild_typed.specs.Holder.{Holder, fields, member, entries, elements, any_entries, any_elements, nothing, list_holder, map_holder, struct_holder, union_holder, is_paired, holder_of, value_of, of_any, data_in}
 use Rattle.ild_typed.specs.Segment.{part, set_part, set_field, put_by, index_of, at_index, member_named, held_as}
 use Rattle.ild_path_edits.specs.Table.{slot_to_set}

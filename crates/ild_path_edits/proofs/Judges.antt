@@ -4,6 +4,7 @@ use Rattle.std.specs.Prelude.{◌↔◌, ◌&&◌, nat_le, Result, Ok, Err}
 use Rattle.std.specs.List.{AllByRecursion, list_all}
 use Rattle.std.specs.Option.{option_map_or}
 use Rattle.std.proofs.lemmas.Option.{none-some}
+use Rattle.std.proofs.lemmas.Bool.{and_parts}
 use Rattle.ild_data.specs.Data.{Data}
 use Rattle.ild_data.specs.Limits.{longest_block}
 use Rattle.ild_schema.specs.declared.number.TypeNo.{TypeNo}
@@ -27,10 +28,6 @@ use Rattle.ild_path_edits.specs.Judged.{Tests, AreTests, are_sized, judged, unle
 use Rattle.ild_path_edits.specs.JudgedLaws.{UnrefusedAreStorable, of_three, JudgedInOrder, EditedAreStorable}
 use Rattle.ild_path_edits.proofs.KeepTyped.{lines_keep_typed}
 
-both_of : (a b : Bool) → (a && b) ≡ true → (a ≡ true) × (b ≡ true)
-both_of true b h = (refl, h)
-both_of false b h = absurd cc
-
 true_false : true ≡ false → ⊥
 true_false h = absurd cc
 
@@ -42,7 +39,7 @@ of_small n m h = grind (arith, h)
 
 sized_of : (bs : List (List ℕ)) → list_all (λ b. nat_le (length b) longest_block) bs ≡ true → AllByRecursion (λ b. length b ≤ longest_block) bs
 sized_of [] h = tt
-sized_of (b ∷ bs) h = let x = both_of (nat_le (length b) longest_block) (list_all (λ b. nat_le (length b) longest_block) bs) h in (small_of (length b) longest_block x.0, sized_of bs x.1)
+sized_of (b ∷ bs) h = let x = and_parts (nat_le (length b) longest_block) (list_all (λ b. nat_le (length b) longest_block) bs) h in (small_of (length b) longest_block x.0, sized_of bs x.1)
 
 of_sized : (bs : List (List ℕ)) → AllByRecursion (λ b. length b ≤ longest_block) bs → list_all (λ b. nat_le (length b) longest_block) bs ≡ true
 of_sized [] h = refl

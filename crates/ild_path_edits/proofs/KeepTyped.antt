@@ -77,10 +77,10 @@ edits_keep_typed rows is_key schema keys p e c texts new is h =
 err_ok : (n : No) (w : Value) → ◌≡◌ {A = Result Value No} (Err n) (Ok w) → ⊥
 err_ok n w h = absurd cc
 
-ok_same : (v w : Value) → ◌≡◌ {A = Result Value No} (Ok v) (Ok w) → v ≡ w
+pub ok_same : (v w : Value) → ◌≡◌ {A = Result Value No} (Ok v) (Ok w) → v ≡ w
 ok_same v w h = cc
 
-meant_ok : (o : Option Value) (w : Value) → meant_or o ≡ Ok w → o ≡ Some w
+pub meant_ok : (o : Option Value) (w : Value) → meant_or o ≡ Ok w → o ≡ Some w
 meant_ok None w h = absurd (err_ok _ w h)
 meant_ok (Some v) w h = ap Some (ok_same v w h)
 

@@ -1,7 +1,8 @@
 -- A test of every layer is a judgement by layers.
-use Rattle.std.proofs.Common.{◌≡◌, ℕ, List, [], ◌∷◌, slice_get, Bool, true, false, ◌||◌, Option, Some, refl, ap, sym, subst, ◌∙◌}
+use Rattle.std.proofs.Common.{◌≡◌, ℕ, List, [], ◌∷◌, slice_get, Bool, false, Option, Some, refl, ap, sym, subst, ◌∙◌}
 use Rattle.std.specs.Prelude.{IfSome, option_map}
 use Rattle.std.specs.Option.{option_map_or}
+use Rattle.std.proofs.lemmas.Bool.{or_parts, or_from}
 use Rattle.ild_data.specs.Data as D
 use Rattle.ild_data.specs.Data.{Data}
 use Rattle.ild_schema.specs.declared.def.TypeDef.{TypeDef}
@@ -42,18 +43,11 @@ optionals_back no_optionals = refl
 optionals_back (absent os) = ap (λ ps. absent ps) (optionals_back os)
 optionals_back (present v os) = ap (λ ps. present v ps) (optionals_back os)
 
-neither : (a b : Bool) → (a || b) ≡ false → (a ≡ false) × (b ≡ false)
-neither true b h = absurd cc
-neither false b h = (refl, h)
-
-both_false : (a b : Bool) → a ≡ false → b ≡ false → (a || b) ≡ false
-both_false a b p q = λ i. p i || q i
-
 -- a test of parts, in the slot that their holder gives them
-in_slot : (o : Option Slot) (u : Slot) (f : Slot → Bool) → o ≡ Some u → option_map_or f o false ≡ false → f u ≡ false
+pub in_slot : (o : Option Slot) (u : Slot) (f : Slot → Bool) → o ≡ Some u → option_map_or f o false ≡ false → f u ≡ false
 in_slot o u f e h = sym (ap (λ p. option_map_or f p false) e) ∙ h
 
-slot_in : (o : Option Slot) (u : Slot) (f : Slot → Bool) → o ≡ Some u → f u ≡ false → option_map_or f o false ≡ false
+pub slot_in : (o : Option Slot) (u : Slot) (f : Slot → Bool) → o ≡ Some u → f u ≡ false → option_map_or f o false ≡ false
 slot_in o u f e h = ap (λ p. option_map_or f p false) e ∙ h
 
 module _ (rows : List Row) (is_key : ℕ → List ℕ → Bool) (test : Option TypeDef → Value → Bool) where
@@ -104,22 +98,22 @@ module _ (rows : List Row) (is_key : ℕ → List ℕ → Bool) (test : Option T
     free_good (bytes s) slot t h = tt
     free_good (link s) slot t h = tt
     free_good (list vs) slot t h =
-        let x = neither (test (form_of rows slot) (list vs)) (option_map_or (λ u. some_value test rows u vs) (element_of (form_of rows slot)) false) h in (
+        let x = or_parts (test (form_of rows slot) (list vs)) (option_map_or (λ u. some_value test rows u vs) (element_of (form_of rows slot)) false) h in (
           subst (λ f. LayerPasses test rows slot (list_holder f vs)) (sym t.2) (ap (λ ws. test (form_of rows slot) (list ws)) (values_back vs) ∙ x.0),
           subst (λ f. IfSome (element_of f) (λ u. Goods u vs)) (sym t.2) (frees_good vs t.0 t.3 (in_slot (element_of (form_of rows slot)) t.0 (λ u. some_value test rows u vs) (ap element_of t.2) x.1)),
         )
     free_good (map ps) slot t h =
-        let x = neither (test (form_of rows slot) (map ps)) (option_map_or (λ u. some_pair test rows u ps) (element_of (form_of rows slot)) false) h in (
+        let x = or_parts (test (form_of rows slot) (map ps)) (option_map_or (λ u. some_pair test rows u ps) (element_of (form_of rows slot)) false) h in (
           subst (λ f. LayerPasses test rows slot (map_holder f ps)) (sym t.5) (ap (λ ws. test (form_of rows slot) (map ws)) (pairs_back ps) ∙ x.0),
           subst (λ f. IfSome (element_of f) (λ u. GoodPairs u ps)) (sym t.5) (free_pairs ps (t.0).0 t.2 t.6 (in_slot (element_of (form_of rows slot)) t.2 (λ u. some_pair test rows u ps) (ap element_of t.5) x.1)),
         )
     free_good (struct os) slot t h =
-        let x = neither (test (form_of rows slot) (struct os)) (some_field test rows (fields_of (form_of rows slot)) os) h in (
+        let x = or_parts (test (form_of rows slot) (struct os)) (some_field test rows (fields_of (form_of rows slot)) os) h in (
           subst (λ f. LayerPasses test rows slot (struct_holder f os)) (sym t.1) (ap (λ ws. test (form_of rows slot) (struct ws)) (optionals_back os) ∙ x.0),
           subst (λ f. GoodFields (fields_of f) os) (sym t.1) (free_fields os (t.0).fields t.2 (ap (λ f. some_field test rows (fields_of f) os) (sym t.1) ∙ x.1)),
         )
     free_good (union n v) slot t h =
-        let x = neither (test (form_of rows slot) (union n v)) (option_map_or (λ u. some_layer test rows u v) (member_of (form_of rows slot) n) false) h in
+        let x = or_parts (test (form_of rows slot) (union n v)) (option_map_or (λ u. some_layer test rows u v) (member_of (form_of rows slot) n) false) h in
         let at = member_slot (form_of rows slot) t.0 n t.1 t.2 t.3 in (
           subst (λ f. LayerPasses test rows slot (union_holder f n v)) (sym t.2) x.0,
           subst (λ o. IfSome o (λ u. Good u v)) (sym at) (free_good v (plainly (t.1).ty) t.4 (in_slot (member_of (form_of rows slot) n) (plainly (t.1).ty) (λ u. some_layer test rows u v) at x.1)),
@@ -131,18 +125,18 @@ module _ (rows : List Row) (is_key : ℕ → List ℕ → Bool) (test : Option T
 
     frees_good : (vs : Values) (slot : Slot) → AreByParts rows is_key slot vs → some_value test rows slot vs ≡ false → Goods slot vs
     frees_good no_values slot t h = tt
-    frees_good (value v vs) slot t h = let x = neither (some_layer test rows slot v) (some_value test rows slot vs) h in (free_good v slot t.0 x.0, frees_good vs slot t.1 x.1)
+    frees_good (value v vs) slot t h = let x = or_parts (some_layer test rows slot v) (some_value test rows slot vs) h in (free_good v slot t.0 x.0, frees_good vs slot t.1 x.1)
 
     free_pairs : (ps : Pairs) (key : ℕ) (slot : Slot) → EntriesByParts rows is_key key slot ps → some_pair test rows slot ps ≡ false → GoodPairs slot ps
     free_pairs no_pairs key slot t h = tt
-    free_pairs (pair k v ps) key slot t h = let x = neither (some_layer test rows slot v) (some_pair test rows slot ps) h in (free_good v slot t.1 x.0, free_pairs ps key slot t.2 x.1)
+    free_pairs (pair k v ps) key slot t h = let x = or_parts (some_layer test rows slot v) (some_pair test rows slot ps) h in (free_good v slot t.1 x.0, free_pairs ps key slot t.2 x.1)
 
     free_fields : (os : Optionals) (fs : List Field) → FieldsByParts rows is_key fs os → some_field test rows fs os ≡ false → GoodFields fs os
     free_fields no_optionals fs t h = tt
     free_fields (absent os) [] t h = tt
     free_fields (absent os) (f ∷ fs) t h = free_fields os fs t.1 h
     free_fields (present v os) [] t h = tt
-    free_fields (present v os) (f ∷ fs) t h = let x = neither (some_layer test rows f.slot v) (some_field test rows fs os) h in (free_good v f.slot t.0 x.0, free_fields os fs t.1 x.1)
+    free_fields (present v os) (f ∷ fs) t h = let x = or_parts (some_layer test rows f.slot v) (some_field test rows fs os) h in (free_good v f.slot t.0 x.0, free_fields os fs t.1 x.1)
 
   mutual
     pub good_free : (v : Value) (slot : Slot) → Of slot v → Good slot v → IsFree test rows slot v
@@ -155,23 +149,23 @@ module _ (rows : List Row) (is_key : ℕ → List ℕ → Bool) (test : Option T
     good_free (list vs) slot t h =
         let own : test (form_of rows slot) (list (values_of (values_list vs))) ≡ false = subst (λ f. LayerPasses test rows slot (list_holder f vs)) t.2 h.0 in
         let parts : Goods t.0 vs = subst (λ f. IfSome (element_of f) (λ u. Goods u vs)) t.2 h.1 in
-        both_false (test (form_of rows slot) (list vs)) (option_map_or (λ u. some_value test rows u vs) (element_of (form_of rows slot)) false)
+        or_from (test (form_of rows slot) (list vs)) (option_map_or (λ u. some_value test rows u vs) (element_of (form_of rows slot)) false)
         (ap (λ ws. test (form_of rows slot) (list ws)) (sym (values_back vs)) ∙ own) (slot_in (element_of (form_of rows slot)) t.0 (λ u. some_value test rows u vs) (ap element_of t.2) (goods_free vs t.0 t.3 parts))
     good_free (map ps) slot t h =
         let own : test (form_of rows slot) (map (pairs_of (pairs_list ps))) ≡ false = subst (λ f. LayerPasses test rows slot (map_holder f ps)) t.5 h.0 in
         let parts : GoodPairs t.2 ps = subst (λ f. IfSome (element_of f) (λ u. GoodPairs u ps)) t.5 h.1 in
-        both_false (test (form_of rows slot) (map ps)) (option_map_or (λ u. some_pair test rows u ps) (element_of (form_of rows slot)) false)
+        or_from (test (form_of rows slot) (map ps)) (option_map_or (λ u. some_pair test rows u ps) (element_of (form_of rows slot)) false)
         (ap (λ ws. test (form_of rows slot) (map ws)) (sym (pairs_back ps)) ∙ own) (slot_in (element_of (form_of rows slot)) t.2 (λ u. some_pair test rows u ps) (ap element_of t.5) (pairs_free ps (t.0).0 t.2 t.6 parts))
     good_free (struct os) slot t h =
         let own : test (form_of rows slot) (struct (optionals_of (optionals_list os))) ≡ false = subst (λ f. LayerPasses test rows slot (struct_holder f os)) t.1 h.0 in
         let parts : GoodFields (t.0).fields os = subst (λ f. GoodFields (fields_of f) os) t.1 h.1 in
-        both_false (test (form_of rows slot) (struct os)) (some_field test rows (fields_of (form_of rows slot)) os)
+        or_from (test (form_of rows slot) (struct os)) (some_field test rows (fields_of (form_of rows slot)) os)
         (ap (λ ws. test (form_of rows slot) (struct ws)) (sym (optionals_back os)) ∙ own) (ap (λ f. some_field test rows (fields_of f) os) t.1 ∙ fields_free os (t.0).fields t.2 parts)
     good_free (union n v) slot t h =
         let own : test (form_of rows slot) (union n v) ≡ false = subst (λ f. LayerPasses test rows slot (union_holder f n v)) t.2 h.0 in
         let at = member_slot (form_of rows slot) t.0 n t.1 t.2 t.3 in
         let part : Good (plainly (t.1).ty) v = subst (λ o. IfSome o (λ u. Good u v)) at h.1 in
-        both_false (test (form_of rows slot) (union n v)) (option_map_or (λ u. some_layer test rows u v) (member_of (form_of rows slot) n) false) own
+        or_from (test (form_of rows slot) (union n v)) (option_map_or (λ u. some_layer test rows u v) (member_of (form_of rows slot) n) false) own
         (slot_in (member_of (form_of rows slot) n) (plainly (t.1).ty) (λ u. some_layer test rows u v) at (good_free v (plainly (t.1).ty) t.4 part))
     good_free (enum n) slot t h = refl
     good_free unit slot t h = refl
@@ -180,18 +174,18 @@ module _ (rows : List Row) (is_key : ℕ → List ℕ → Bool) (test : Option T
 
     goods_free : (vs : Values) (slot : Slot) → AreByParts rows is_key slot vs → Goods slot vs → some_value test rows slot vs ≡ false
     goods_free no_values slot t h = refl
-    goods_free (value v vs) slot t h = both_false (some_layer test rows slot v) (some_value test rows slot vs) (good_free v slot t.0 h.0) (goods_free vs slot t.1 h.1)
+    goods_free (value v vs) slot t h = or_from (some_layer test rows slot v) (some_value test rows slot vs) (good_free v slot t.0 h.0) (goods_free vs slot t.1 h.1)
 
     pairs_free : (ps : Pairs) (key : ℕ) (slot : Slot) → EntriesByParts rows is_key key slot ps → GoodPairs slot ps → some_pair test rows slot ps ≡ false
     pairs_free no_pairs key slot t h = refl
-    pairs_free (pair k v ps) key slot t h = both_false (some_layer test rows slot v) (some_pair test rows slot ps) (good_free v slot t.1 h.0) (pairs_free ps key slot t.2 h.1)
+    pairs_free (pair k v ps) key slot t h = or_from (some_layer test rows slot v) (some_pair test rows slot ps) (good_free v slot t.1 h.0) (pairs_free ps key slot t.2 h.1)
 
     fields_free : (os : Optionals) (fs : List Field) → FieldsByParts rows is_key fs os → GoodFields fs os → some_field test rows fs os ≡ false
     fields_free no_optionals fs t h = refl
     fields_free (absent os) [] t h = refl
     fields_free (absent os) (f ∷ fs) t h = fields_free os fs t.1 h
     fields_free (present v os) [] t h = refl
-    fields_free (present v os) (f ∷ fs) t h = both_false (some_layer test rows f.slot v) (some_field test rows fs os) (good_free v f.slot t.0 h.0) (fields_free os fs t.1 h.1)
+    fields_free (present v os) (f ∷ fs) t h = or_from (some_layer test rows f.slot v) (some_field test rows fs os) (good_free v f.slot t.0 h.0) (fields_free os fs t.1 h.1)
 
 module _ (rows : List Row) (is_key : ℕ → List ℕ → Bool) (test : Option TypeDef → Value → Bool) (schema : IsSchema rows) (keys : TestsKeys rows is_key) where
   to_good : (slot : Slot) (v : Value) → OfType rows slot v → IsFree test rows slot v → Good rows is_key test slot v

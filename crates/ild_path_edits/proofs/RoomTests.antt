@@ -6,6 +6,7 @@ use Rattle.std.specs.List.{AllByRecursion}
 use Rattle.std.proofs.lemmas.Bool.Decides.{nat_tests}
 use Rattle.std.proofs.lemmas.Option.{same_Some, none-some, slice_get_within}
 use Rattle.std.proofs.lemmas.Str.{is_utf8-from_IsUtf8, IsUtf8-from_is_utf8}
+use Rattle.ild_data.proofs.Gets.{there_at}
 use Rattle.ild_data.specs.Data as T
 use Rattle.ild_data.specs.Data.{Data}
 use Rattle.ild_data.specs.Tree.{IsTree}
@@ -35,7 +36,7 @@ use Rattle.ild_typed.specs.Layers.{layer_of, RepresentsSome, FieldsFit, EntriesF
 use Rattle.ild_typed.specs.OfType.{OfType}
 use Rattle.ild_typed.specs.Refused.{Refusal, Refused}
 use Rattle.ild_typed.specs.Schema.{IsSchema}
-use Rattle.ild_typed.proofs.FormOf.{got_below, hamt_form}
+use Rattle.ild_typed.proofs.FormOf.{hamt_form}
 use Rattle.ild_typed.proofs.OneLayer.{in_layer}
 use Rattle.ild_typed.proofs.OneValue.{one_value, alone_exact, plain_safe}
 use Rattle.ild_typed.proofs.TreeValues.{alone_tree}
@@ -240,7 +241,7 @@ module _ (rows : List Row) (schema : IsSchema rows) where
       by_walk whole false e low = none_told (λ b h. false_true (sym e ∙ (whole.says tt).1 (hamt_is s d b).whole))
 
       by : (whole : Told (Unit {0}) (IsTree d)) → (o : Option Row) → slice_get rows s.ty.0 ≡ o → Told (OfType rows s (V.hamt d)) (FitsPast rows room over s (V.hamt d))
-      by whole None at = none_told (λ b h. let x = got_below rows s.ty.0 (hamt_is s d b).low in none-some x.0 (sym at ∙ x.1))
+      by whole None at = none_told (λ b h. let x = there_at rows s.ty.0 (hamt_is s d b).low in none-some x.0 (sym at ∙ x.1))
       by whole (Some r) at = by_walk whole whole.is refl (slice_get_within rows s.ty.0 r at)
 
   -- ---- the test

@@ -1,6 +1,7 @@
 -- A value in which a part is inserted or deleted is seen as the changed holder.
 use Rattle.std.proofs.Common.{◌≡◌, ℕ, List, length, insert, Option, Some, None, refl, ap, ◌∙◌}
 use Rattle.std.specs.Prelude.{remove}
+use Rattle.ild_schema.proofs.Parts.{values_list-values_of, pairs_list-pairs_of, optionals_list-optionals_of}
 use Rattle.ild_data.specs.Data as D
 use Rattle.ild_data.specs.Key.{without}
 use Rattle.ild_data.proofs.Lists.{items_list-items_of, members_list-members_of}
@@ -12,7 +13,6 @@ use Rattle.ild_schema.specs.Slots.{form_of}
 use Rattle.ild_schema.specs.Value.{Value, Values, Pairs, Optionals, null, boolean, integer, text, bytes, link, list, map, struct, union, enum, unit, any, hamt, values_of, values_list, pairs_of, pairs_list, optionals_of, optionals_list}
 use Rattle.ild_typed.specs.Holder.{fields, entries, elements, any_entries, any_elements, is_paired, list_holder, map_holder, struct_holder, union_holder, holder_of, value_of}
 use Rattle.ild_typed.specs.Segment.{at_index, index_of, set_field}
-use Rattle.ild_typed.proofs.Lists.{values_list-values_of, pairs_list-pairs_of, optionals_list-optionals_of}
 use Rattle.ild_path_edits.specs.Table.{new_index, insert_part, delete_part}
 use Rattle.ild_path_edits.proofs.Holders.{set_part-seen, map_seen, struct_seen, union_seen}
 

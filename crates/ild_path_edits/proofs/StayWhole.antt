@@ -1,10 +1,11 @@
 -- Whole values stay whole: no edit brings the root of a HAMT alone into a value.
 use Rattle.std.proofs.Common.{cond, ◌≡◌, ℕ, List, [], ◌∷◌, length, slice_get, Bool, true, false, Option, Some, None, refl, subst}
-use Rattle.std.specs.Prelude.{◌&&◌, slice_set, insert, remove, option_map, option_and_then}
+use Rattle.std.specs.Prelude.{slice_set, insert, remove, option_map, option_and_then}
 use Rattle.std.specs.Option.{option_map_or}
 use Rattle.std.proofs.lemmas.Option.{same_Some, none-some}
+use Rattle.std.proofs.lemmas.Bool.{and_parts, and_from}
 use Rattle.ild_data.specs.Data as D
-use Rattle.ild_data.specs.Data.{Data, Items, Members, members_list}
+use Rattle.ild_data.specs.Data.{Data}
 use Rattle.ild_data.specs.Key.{same_text, value_at}
 use Rattle.ild_schema.specs.declared.def.TypeDef.{TypeDef}
 use Rattle.ild_schema.specs.declared.def.TypeDef.TheVariants as T
@@ -26,13 +27,6 @@ use Rattle.ild_path_edits.proofs.Typing.{Each, each_got, each_with, each_inserte
 abbrev pub W : Value → Type 0
 W v = is_whole v ≡ true
 
-both_of : (a b : Bool) → (a && b) ≡ true → (a ≡ true) × (b ≡ true)
-both_of true b h = (refl, h)
-both_of false b h = absurd cc
-
-and_of : (a b : Bool) → a ≡ true → b ≡ true → (a && b) ≡ true
-and_of a b p q = λ i. p i && q i
-
 abbrev EntryW : List ℕ × Value → Type 0
 EntryW p = W p.1
 
@@ -42,29 +36,29 @@ MayW (Some v) = W v
 
 values_each : (vs : Values) → are_whole vs ≡ true → Each W (values_list vs)
 values_each no_values h = tt
-values_each (value v vs) h = let x = both_of (is_whole v) (are_whole vs) h in (x.0, values_each vs x.1)
+values_each (value v vs) h = let x = and_parts (is_whole v) (are_whole vs) h in (x.0, values_each vs x.1)
 
 each_values : (xs : List Value) → Each W xs → are_whole (values_of xs) ≡ true
 each_values [] h = refl
-each_values (x ∷ xs) h = and_of (is_whole x) (are_whole (values_of xs)) h.0 (each_values xs h.1)
+each_values (x ∷ xs) h = and_from (is_whole x) (are_whole (values_of xs)) h.0 (each_values xs h.1)
 
 pairs_each : (ps : Pairs) → pairs_whole ps ≡ true → Each EntryW (pairs_list ps)
 pairs_each no_pairs h = tt
-pairs_each (pair k v ps) h = let x = both_of (is_whole v) (pairs_whole ps) h in (x.0, pairs_each ps x.1)
+pairs_each (pair k v ps) h = let x = and_parts (is_whole v) (pairs_whole ps) h in (x.0, pairs_each ps x.1)
 
 each_pairs : (xs : List (List ℕ × Value)) → Each EntryW xs → pairs_whole (pairs_of xs) ≡ true
 each_pairs [] h = refl
-each_pairs (x ∷ xs) h = and_of (is_whole x.1) (pairs_whole (pairs_of xs)) h.0 (each_pairs xs h.1)
+each_pairs (x ∷ xs) h = and_from (is_whole x.1) (pairs_whole (pairs_of xs)) h.0 (each_pairs xs h.1)
 
 fields_each : (os : Optionals) → fields_whole os ≡ true → Each MayW (optionals_list os)
 fields_each no_optionals h = tt
 fields_each (absent os) h = (tt, fields_each os h)
-fields_each (present v os) h = let x = both_of (is_whole v) (fields_whole os) h in (x.0, fields_each os x.1)
+fields_each (present v os) h = let x = and_parts (is_whole v) (fields_whole os) h in (x.0, fields_each os x.1)
 
 each_fields : (xs : List (Option Value)) → Each MayW xs → fields_whole (optionals_of xs) ≡ true
 each_fields [] h = refl
 each_fields (None ∷ xs) h = each_fields xs h.1
-each_fields (Some v ∷ xs) h = and_of (is_whole v) (fields_whole (optionals_of xs)) h.0 (each_fields xs h.1)
+each_fields (Some v ∷ xs) h = and_from (is_whole v) (fields_whole (optionals_of xs)) h.0 (each_fields xs h.1)
 
 -- ---- holders of whole parts
 

@@ -90,7 +90,7 @@ ins_fault is_key c stop last (Some l) = (
   λ x. path_placed (key_fits is_key l.0 l.1) c (slot_to_insert l.0 l.1) (fault_some stop last (λ h t. is_some (slot_to_insert h t)) l x.0 x.1),
 )
 
-err_same : (m n : No) → ◌≡◌ {A = Result Value No} (Err m) (Err n) → m ≡ n
+pub err_same : (m n : No) → ◌≡◌ {A = Result Value No} (Err m) (Err n) → m ≡ n
 err_same m n h = cc
 
 kept_path : (c : Value) (o : Option No) → unless_kept c o ≡ Err N.Path → may_delete o ≡ false

@@ -6,6 +6,7 @@ use Rattle.std.specs.declared.cmp.Ordering.{Ordering}
 use Rattle.std.specs.declared.cmp.Ordering.TheVariants.{Less, Equal, Greater}
 use Rattle.std.proofs.lemmas.Bool.Decides.{nat_tests}
 use Rattle.std.proofs.lemmas.Str.{is_utf8-from_IsUtf8, IsUtf8-from_is_utf8}
+use Rattle.std.proofs.lemmas.Bool.{and_from, and_parts}
 use Rattle.ild_data.specs.Bytes.{AreBytes}
 use Rattle.ild_data.specs.Cid.{IsCid}
 use Rattle.ild_data.specs.CidRead.{is_cid}
@@ -14,7 +15,6 @@ use Rattle.ild_data.specs.Integer.{IsInt}
 use Rattle.ild_data.specs.Key.{key_cmp, IsBelow}
 use Rattle.ild_data.specs.Tree.{IsTree, AreTrees, AreEntries}
 use Rattle.ild_data.proofs.Cids.{is_cid-IsCid, IsCid-is_cid}
-use Rattle.ild_typed.proofs.Basics.{both_true}
 
 -- what a test tells where something holds beforehand
 pub record Told (Before F : Type 0) : Type 0 where
@@ -30,16 +30,12 @@ all_told f = record { is = true; says = λ b. ((λ e. f), (λ h. refl)) }
 pub none_told : {B F : Type 0} → (B → F → ⊥) → Told B F
 none_told never = record { is = false; says = λ b. ((λ e. absurd (false_true e)), (λ h. absurd (never b h))) }
 
-both_are : (a b : Bool) → a ≡ true → b ≡ true → (a && b) ≡ true
-both_are true b x y = y
-both_are false b x y = absurd (false_true x)
-
 pub both_told : {A B F G : Type 0} → Told A F → Told B G → Told (A × B) (F × G)
 both_told f g = record {
   is = f.is && g.is;
   says = λ b. (
-    (λ e. let x = both_true f.is g.is e in ((f.says b.0).0 x.0, (g.says b.1).0 x.1)),
-    (λ h. both_are f.is g.is ((f.says b.0).1 h.0) ((g.says b.1).1 h.1)),
+    (λ e. let x = and_parts f.is g.is e in ((f.says b.0).0 x.0, (g.says b.1).0 x.1)),
+    (λ h. and_from f.is g.is ((f.says b.0).1 h.0) ((g.says b.1).1 h.1)),
   );
 }
 

@@ -2,7 +2,8 @@
 use Rattle.std.proofs.Common.{◌≡◌, ◌⊎◌, inl, inr, ⊎_elim, ℕ, ◌+◌, Bool, true, List, ◌∷◌, ◌++◌, Some, sym, ap, ◌∙◌, subst, arith}
 use Rattle.std.specs.Prelude.{Result, Ok, Err, option_and_then}
 use Rattle.ild_edges.specs.Gained.{AreIdsGiven}
-use Rattle.ild_typed.specs.Among.{AreAmong}
+use Rattle.ild_hamt.proofs.Going.{told as told_at}
+use Rattle.ild_data.specs.Among.{AreAmong}
 use Rattle.ild_data.specs.Data.{Data}
 use Rattle.ild_data.specs.Limits.{deepest}
 use Rattle.ild_data.specs.Spell.{spell}
@@ -36,7 +37,7 @@ use Rattle.ild_path_hops.specs.HopLaws.{path_of_hops}
 use Rattle.ild_path_hops.specs.declared.hop.Hop.{Hop}
 use Rattle.ild_path_hops.proofs.Hopping.{hops_stay}
 use Rattle.ild_path_outward.specs.Outward.{EndAnswer, IsNewEnd, with_end}
-use Rattle.ild_path_outward.proofs.Carrying.{given_more}
+use Rattle.ild_path_outward.proofs.Carrying.{given_more, told_next}
 use Rattle.ild_path_sizes.specs.Long.{HasLongPart}
 use Rattle.ild_path_way.specs.Way.{nodes_met}
 use Rattle.ild_path_way.proofs.Splitting.{nodes_split}
@@ -45,7 +46,7 @@ use Rattle.ild_path_ends.specs.inside.AtKey.{MakesAtKey}
 use Rattle.ild_path_ends.specs.Ends.{AddsBlocks, Came, EditsWhole, GivesWhole, WholeAnswer}
 use Rattle.ild_path_ends.proofs.Ending.{among as among_whole, there as there_whole}
 use Rattle.ild_path_ends.proofs.Finishing.{all_stay, node_came}
-use Rattle.ild_path_ends.proofs.Telling.{both_at, both_here, told_at, told_next}
+use Rattle.ild_path_ends.proofs.Telling.{both_at, both_here}
 
 module _ (h : List ℕ → List ℕ) (is_key : ℕ → List ℕ → Bool) (was : List (List ℕ)) (v : Value) (t : Data) (root : View) (hops : List Hop) (q : InSlot) (less : ℕ) (level : IsLevel h is_key was deepest v t root)
     (leads : AreHops h (table_of root) was deepest (slot_of root, v) hops q less) (path : List (List ℕ)) (c : Value) (u : Data) (tree : represented (whole h) (table_of root) (slot_of root) c ≡ Some u)

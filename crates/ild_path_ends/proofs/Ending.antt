@@ -4,7 +4,7 @@ use Rattle.std.specs.Prelude.{IfOk, Result, Ok, Err}
 use Rattle.std.specs.List.{AllByRecursion}
 use Rattle.ild_edges.specs.Gained.{AreIdsGiven}
 use Rattle.ild_cbor.specs.declared.node.Node.{Node}
-use Rattle.ild_typed.specs.Among.{AreAmong}
+use Rattle.ild_data.specs.Among.{AreAmong}
 use Rattle.ild_data.specs.Data.{Data}
 use Rattle.ild_data.specs.Limits.{deepest, longest_block}
 use Rattle.ild_data.specs.Spell.{spell}
@@ -30,7 +30,7 @@ use Rattle.ild_view.specs.declared.view.View.{View}
 use Rattle.ild_open_held.specs.Held.{IsHeld}
 use Rattle.ild_path_edits.specs.Edit.{change, ins_at, new_slot, path_of, set_at}
 use Rattle.ild_path_edits.specs.EditLaws.{Brings}
-use Rattle.ild_path_edits.proofs.KeepTyped.{edits_keep_types}
+use Rattle.ild_path_edits.proofs.KeepTyped.{edits_keep_types, ok_same}
 use Rattle.ild_path_block.specs.Edits.{BringsPart, EditsPart, IsPartItem, edit_of}
 use Rattle.ild_path_block.specs.declared.edit.PartEdit.{PartEdit}
 use Rattle.ild_path_block.specs.declared.edit.PartEdit.TheVariants as E
@@ -71,9 +71,6 @@ pub record Within (rows : List Row) (p : InSlot) (path : List (List ℕ)) (r : R
 pub within : (rows : List Row) (p : InSlot) (path : List (List ℕ)) (r : Result Value No) (c : Value) → with_result rows p path r ≡ Ok c → Within rows p path r c
 within rows p path (Ok m) c e = record { new = m; is = refl; made = cc }
 within rows p path (Err refusal) c e = absurd cc
-
-same_Ok : (a b : Value) → ◌≡◌ {A = Result Value No} (Ok a) (Ok b) → a ≡ b
-same_Ok a b e = cc
 
 moved_edit : (edit : PartEdit) (w : Value) (a b : List (List ℕ)) → moved (a ++ path_of (edit_of edit w b)) (edit_of edit w b) ≡ edit_of edit w (a ++ b)
 moved_edit (E.Set n) w a b = refl
@@ -143,7 +140,7 @@ module _ (h : List ℕ → List ℕ) (is_key : ℕ → List ℕ → Bool) (was :
       by : (e : PartEdit) (us : List (List ℕ)) → HasEnd e us → ((s : List ℕ) (ss : List (List ℕ)) → us ≡ s ∷ ss → Within Rows (S, v) Path (change Rows is_key q (edit_of e w us)) c)
           → change Rows is_key (S, v) (edit_of e w (Path ++ us)) ≡ Ok c → Within Rows (S, v) Path (change Rows is_key q (edit_of e w us)) c
       by (E.Set n) [] ok rest makes =
-          record { new = w; is = refl; made = same_Ok _ _ (sym (parts_are_set Rows is_key (S, v) q Path w at_q) ∙ ap (λ us. change Rows is_key (S, v) (set_at us w)) (sym (append-nil Path)) ∙ makes) }
+          record { new = w; is = refl; made = ok_same _ _ (sym (parts_are_set Rows is_key (S, v) q Path w at_q) ∙ ap (λ us. change Rows is_key (S, v) (set_at us w)) (sym (append-nil Path)) ∙ makes) }
       by (E.Insert n) [] ok rest makes = absurd ok
       by E.Delete [] ok rest makes = absurd ok
       by e (s ∷ ss) ok rest makes = rest s ss refl

@@ -1,8 +1,9 @@
 -- The block of the whole is put behind its nodes.
-use Rattle.std.proofs.Common.{◌≡◌, inl, inr, ⊎_elim, ℕ, suc, ◌≤◌, List, [], ◌∷◌, length, Option, Some, None, ap, sym, ◌∙◌, subst, arith}
-use Rattle.std.specs.Prelude.{Contains, Result, Ok, Err}
+use Rattle.std.proofs.Common.{◌≡◌, inl, inr, ⊎_elim, ℕ, ◌≤◌, List, [], ◌∷◌, length, Option, Some, None, ap, sym, ◌∙◌, subst, arith}
+use Rattle.std.specs.Prelude.{Result, Ok, Err}
 use Rattle.std.specs.List.{AllByRecursion}
 use Rattle.ild_edges.specs.Gained.{AreIdsGiven, CameFrom}
+use Rattle.ild_hamt.proofs.Going.{told as told_at}
 use Rattle.ild_data.specs.Data.{Data}
 use Rattle.ild_data.specs.Limits.{deepest, longest_block}
 use Rattle.ild_data.specs.Spell.{id_of, spell}
@@ -24,11 +25,11 @@ use Rattle.ild_path_held.proofs.Holding.{block_stays, held_stays}
 use Rattle.ild_path_reroot.specs.Reroots.{AddsNodes, NodeCame}
 use Rattle.ild_path_reroot.proofs.Coming.{came_stays}
 use Rattle.ild_path_outward.specs.Outward.{EndAnswer, SetsEnd}
-use Rattle.ild_path_outward.proofs.Carrying.{caused_later, given_stay}
+use Rattle.ild_path_outward.proofs.Carrying.{caused_later, given_stay, told_here, told_next}
 use Rattle.ild_path_way.specs.Way.{nodes_met}
 use Rattle.ild_hamt.specs.Edits.{CausedBy, FaultCause}
 use Rattle.ild_path_ends.specs.Ends.{AddsBlocks, Came, EditsWhole, WholeAnswer}
-use Rattle.ild_path_ends.proofs.Telling.{both_at, both_here, told_at, told_here, told_next}
+use Rattle.ild_path_ends.proofs.Telling.{both_at, both_here}
 
 pub all_stay : (was now : List (List ℕ)) → Keeps was now → (bs : List (List ℕ)) → AllByRecursion (IsHeldBlock (block_at was)) bs → AllByRecursion (IsHeldBlock (block_at now)) bs
 all_stay was now keeps [] all = tt

@@ -1,9 +1,9 @@
 -- An entry of a HAMT in a block is set, or goes.
-use Rattle.std.proofs.Common.{◌≡◌, ◌⊎◌, inl, inr, ⊎_elim, ℕ, ◌+◌, ◌≤◌, Bool, true, List, [], ◌∷◌, ◌++◌, length, Option, Some, None, refl, ap, sym, ◌∙◌, subst, arith}
+use Rattle.std.proofs.Common.{◌≡◌, ◌⊎◌, inl, inr, ⊎_elim, ℕ, ◌+◌, ◌≤◌, Bool, true, List, [], ◌∷◌, ◌++◌, length, Some, refl, ap, sym, ◌∙◌, subst, arith}
 use Rattle.std.specs.Prelude.{IfOk, Result, Ok, Err}
 use Rattle.std.specs.FinMap.{put as insert}
-use Rattle.std.specs.Option.{option_map_or}
 use Rattle.ild_edges.specs.Gained.{AreIdsGiven}
+use Rattle.ild_path_outward.proofs.Carrying.{met_one}
 use Rattle.ild_data.specs.ByteOrder.{bytewise}
 use Rattle.std.proofs.lemmas.Bool.{ltb-true}
 use Rattle.ild_cbor.specs.declared.node.Node.{Node}
@@ -24,7 +24,7 @@ use Rattle.ild_schema.specs.Value.{Value}
 use Rattle.ild_node_slots.specs.declared.fault.HamtFault.{HamtFault}
 use Rattle.ild_node_slots.specs.declared.fault.HamtFault.TheVariants as F
 use Rattle.ild_hamt_trie.specs.Way.{way}
-use Rattle.ild_typed.specs.At.{InSlot, at, met, seen}
+use Rattle.ild_typed.specs.At.{InSlot, at, met}
 use Rattle.ild_typed.specs.Blocks.{nodes}
 use Rattle.ild_typed.specs.Hamt.{whole}
 use Rattle.ild_typed.specs.OfType.{OfType, TestsKeys}
@@ -129,12 +129,6 @@ module _ (h : List ℕ → List ℕ) (rows : List Row) (room : ℕ) (s : Slot) (
     puts = let a = x.puts in omega (arith, a, few);
     given = subst (λ bs. IfOk r (λ b. IfTold n.given (AreIdsGiven bs))) (sym met) x.given;
   }
-
-met_one : (rows : List Row) (count : InSlot → List ℕ → ℕ) (p : InSlot) (s : List ℕ) → met rows count p (s ∷ []) ≡ count p s
-met_one rows count p s = by (part (seen rows p) s) where
-  by : (o : Option InSlot) → count p s + option_map_or (λ q. met rows count q []) o 0 ≡ count p s
-  by None = omega arith
-  by (Some q) = omega arith
 
 -- what is met on the way of the path and the key, where the map there has become another
 pub met_at_key : (h : List ℕ → List ℕ) (rows : List Row) (is_key : ℕ → List ℕ → Bool) (schema : IsSchema rows) (keys : TestsKeys rows is_key) (p : InSlot) (front : List (List ℕ)) (slot : Slot) (old new : Value) (k : List ℕ) (few : ℕ)

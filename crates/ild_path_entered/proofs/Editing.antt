@@ -3,6 +3,7 @@ use Rattle.std.proofs.Common.{◌≡◌, ℕ, List, [], ◌∷◌, ◌++◌, app
 use Rattle.std.specs.Prelude.{is_some, not, Result, Ok, Err, option_map, option_and_then, if◌then◌else◌}
 use Rattle.std.specs.Option.{option_map_or}
 use Rattle.std.proofs.lemmas.Option.{same_Some}
+use Rattle.std.proofs.lemmas.Bool.{and_parts}
 use Rattle.ild_data.specs.Data.{Data}
 use Rattle.ild_data.specs.Key.{value_at}
 use Rattle.ild_schema.proofs.Legibly.{legible}
@@ -19,7 +20,6 @@ use Rattle.ild_typed.specs.OfType.{OfType, TestsKeys}
 use Rattle.ild_typed.specs.Represented.{represented}
 use Rattle.ild_typed.specs.Schema.{IsSchema}
 use Rattle.ild_typed.specs.Segment.{part, set_part}
-use Rattle.ild_typed.proofs.Basics.{both_true}
 use Rattle.ild_value_meaning.proofs.Told.{told}
 use Rattle.ild_path_edits.specs.Along.{room_below}
 use Rattle.ild_path_edits.specs.Edit.{Edit, set_at, ins_at, del_at, path_of, placed, set_in, ins_in, unless_kept, del_in, change}
@@ -192,7 +192,7 @@ met_step rows count ss (Some q) rest e = rest q e
 none_met_at : (rows : List Row) (count : InSlot → List ℕ → ℕ) → ((q : InSlot) (k : List ℕ) → is_root rows q ≡ false → count q k ≡ 0) → (path : List (List ℕ)) (p : InSlot) → in_one_block rows p path ≡ true → met rows count p path ≡ 0
 none_met_at rows count none [] p e = refl
 none_met_at rows count none (s ∷ ss) p e =
-    let x = both_true (not (is_root rows p)) (option_map_or (λ q. in_one_block rows q ss) (part (seen rows p) s) true) e in
+    let x = and_parts (not (is_root rows p)) (option_map_or (λ q. in_one_block rows q ss) (part (seen rows p) s) true) e in
     let a = none p s (not_true (is_root rows p) x.0) in
     let b = met_step rows count ss (part (seen rows p) s) (λ q g. none_met_at rows count none ss q g) x.1 in
     omega (arith, a, b)

@@ -2,6 +2,7 @@
 use Rattle.std.proofs.Common.{◌≡◌, ℕ, zero, suc, ◌-◌, ◌≤◌, Bool, true, false, true≢false, List, Option, Some, refl, sym, ap, ◌∙◌, subst, arith}
 use Rattle.std.specs.Prelude.{IsSomeAnd, option_and_then, slice_get}
 use Rattle.std.proofs.lemmas.Option.{none-some, same_Some}
+use Rattle.ild_typed.proofs.Composing.{a_map_says}
 use Rattle.ild_data.specs.Data as T
 use Rattle.ild_data.specs.Data.{Data, items_list, members_list}
 use Rattle.ild_data.specs.Key.{value_at}
@@ -39,10 +40,6 @@ use Rattle.ild_view.specs.declared.view.View.{View}
 
 -- ---- the root of a HAMT by itself
 
-a_map_same : (d t : Data) → a_map d ≡ Some t → d ≡ t
-a_map_same (T.map ms) t e = same_Some (T.map ms) t e
-a_map_same d t e = absurd (none-some t e)
-
 hamt_levels : (rows : List Row) (room : ℕ) (s : Slot) (t : Data) (d : TypeDef) → form_of rows s ≡ Some d → Fits rows room s (hamt t) → levels_of d (hamt t) ≤ room
 unfolding FitsPast
 hamt_levels rows zero s t d is f = (subst (λ o. IsSomeAnd o (FormFits rows zero (λ over u w. ⊥) (hamt t))) is f).0
@@ -65,7 +62,7 @@ module _ (rows : List Row) (room : ℕ) (s : Slot) (tree d : Data) (front : Fron
         let same : c ≡ x.ty = same_Some c x.ty (sym known ∙ x.form) in
         let m : composed alone x.ty (L.hamt tree) ≡ Some d = (λ i. composed alone (sym same i) (same_Some (L.hamt tree) l there i)) ∙ made in
         let z : a_map tree ≡ Some d = ap (λ (f : TypeDef). composed alone f (L.hamt tree)) (sym y.5) ∙ m in
-        sym (a_map_same tree d z)
+        sym (a_map_says tree d z)
 
   pub hamt_site : (block : List ℕ) → HamtSite rows room s tree block
   hamt_site block =

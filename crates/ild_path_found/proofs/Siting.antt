@@ -1,8 +1,8 @@
 -- A part of a front is represented by a part of the front's data.
-use Rattle.std.proofs.Common.{◌≡◌, ℕ, zero, suc, ◌-◌, Bool, true, false, cond, List, [], ◌∷◌, slice_get, Option, Some, None, Contains, option_map, refl, sym, ap, ◌∙◌, subst, arith}
+use Rattle.std.proofs.Common.{◌≡◌, ℕ, zero, suc, ◌-◌, Bool, true, false, cond, List, [], ◌∷◌, slice_get, Option, Some, None, Contains, option_map, refl, sym, ap, ◌∙◌, subst}
 use Rattle.std.specs.Prelude.{option_and_then}
-use Rattle.std.proofs.lemmas.List.Elements.{Contains-append_right}
 use Rattle.std.proofs.lemmas.Option.{none-some, same_Some}
+use Rattle.ild_data.proofs.AllOf.{contains_first, contains_more}
 use Rattle.ild_data.specs.Data.{Data}
 use Rattle.ild_data.specs.Key.{same_text, value_at}
 use Rattle.ild_open_parts.specs.Sites.{IsPartOf}
@@ -37,12 +37,6 @@ use Rattle.ild_typed.specs.Slots.{slot_of}
 
 -- ---- in the lists of parts
 
-contains_first : {X : Type 0} (x : X) (xs : List X) → Contains (x ∷ xs) x
-contains_first x xs = (zero, omega arith, refl)
-
-contains_next : {X : Type 0} (y : X) (xs : List X) (x : X) → Contains xs x → Contains (y ∷ xs) x
-contains_next y xs x c = Contains-append_right (y ∷ []) xs x c
-
 module _ (rows : List Row) where
   element_got : (u : Slot) (vs : Values) (ds : List Data) (i : ℕ) (w : Value) → represented_values alone rows u vs ≡ Some ds → slice_get (values_list vs) i ≡ Some w → (x : Data) × Contains ds x × (represented alone rows u w ≡ Some x)
   element_got u V.no_values ds i w e at = absurd (none-some w at)
@@ -52,7 +46,7 @@ module _ (rows : List Row) where
   element_got u (V.value v vs) ds (suc i) w e at =
       let b = both_from (represented alone rows u v) (represented_values alone rows u vs) ds e in
       let r = element_got u vs b.items i w b.rest at in
-      (r.0, subst (λ (xs : List Data). Contains xs r.0) b.all (contains_next b.item b.items r.0 r.1), r.2)
+      (r.0, subst (λ (xs : List Data). Contains xs r.0) b.all (contains_more b.item b.items r.0 r.1), r.2)
 
   record EntryGot (u : Slot) (es : List (List ℕ × Data)) (w : Value) : Type 0 where
     key : List ℕ
@@ -80,7 +74,7 @@ module _ (rows : List Row) where
           }
       by b false rest is =
           let r = rest is in
-          record { key = r.key; tree = r.tree; there = subst (λ (xs : List (List ℕ × Data)). Contains xs (r.key, r.tree)) b.all (contains_next b.item b.items (r.key, r.tree) r.there); made = r.made }
+          record { key = r.key; tree = r.tree; there = subst (λ (xs : List (List ℕ × Data)). Contains xs (r.key, r.tree)) b.all (contains_more b.item b.items (r.key, r.tree) r.there); made = r.made }
 
   record FieldGot (fs : List Field) (ds : List (Option Data)) (q : InSlot) : Type 0 where
     place : ℕ

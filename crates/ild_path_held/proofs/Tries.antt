@@ -7,7 +7,7 @@ use Rattle.std.specs.Ordering.{match_ordering}
 use Rattle.std.specs.declared.cmp.Ordering.{Ordering}
 use Rattle.std.specs.declared.cmp.Ordering.TheVariants.{Less, Equal, Greater}
 use Rattle.std.proofs.lemmas.Option.{same_Some}
-use Rattle.ild_typed.specs.Among.{AreAmong}
+use Rattle.ild_data.specs.Among.{AreAmong}
 use Rattle.ild_data.specs.ByteOrder.{bytewise, in_byte_order, without as remove}
 use Rattle.ild_data.specs.Data.{Data}
 use Rattle.ild_data.specs.Key.{Rises, key_cmp, same_text, value_at, put, without}

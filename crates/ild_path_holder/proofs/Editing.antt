@@ -4,6 +4,7 @@ use Rattle.std.specs.List.{AllByRecursion}
 use Rattle.std.specs.Prelude.{IsUtf8, Ok, option_and_then}
 use Rattle.std.proofs.lemmas.Option.{same_Some}
 use Rattle.ild_splice_changes.specs.TreeChange.{applied}
+use Rattle.ild_data.proofs.Options.{chain_some}
 use Rattle.ild_data.specs.Data.{Data}
 use Rattle.ild_path_edits.proofs.KeepTyped.{of_type_is_kept}
 use Rattle.ild_path_edits.proofs.Paths.{kept_typed, last_text, may_stand, placed_typed}
@@ -13,7 +14,6 @@ use Rattle.ild_path_edits.specs.Table.{delete_part, insert_part, key_fits, refus
 use Rattle.ild_path_last.specs.Change.{located}
 use Rattle.ild_path_last.specs.declared.change.LastChange.{LastChange}
 use Rattle.ild_path_changes.proofs.EditOne.{edits_are_one_change}
-use Rattle.ild_path_changes.proofs.Lifting.{chained}
 use Rattle.ild_path_changes.specs.LastLift.{LastEdit, deleting, inserting, last_seen, setting}
 use Rattle.ild_path_changes.specs.Lift.{lift, lifted}
 use Rattle.ild_path_changes.specs.LiftLaws.{IsOneChange, MayDelete, MayInsert, MaySet, of_fronts}
@@ -39,7 +39,7 @@ use Rattle.ild_path_holder.proofs.Seeing.{become_there, last_there}
 same_last : (rows : List Row) (p q : InSlot) (s : List ℕ) (ss : List (List ℕ)) → holder_at rows p s ss ≡ Some q → last_holder rows p s ss ≡ Some (seen rows q, last_of s ss)
 same_last rows p q s [] h = ap (λ (r : InSlot). Some (seen rows r, s)) (same_Some p q h)
 same_last rows p q s (t ∷ ss) h =
-    let x = chained (λ r. holder_at rows r t ss) (part (seen rows p) s) q h in
+    let x = chain_some (λ r. holder_at rows r t ss) (part (seen rows p) s) q h in
     ap (option_and_then (λ r. last_holder rows r t ss)) x.1 ∙ same_last rows x.0 q t ss x.2
 
 module _ (rows : List Row) (is_key : ℕ → List ℕ → Bool) (schema : IsSchema rows) (keys : TestsKeys rows is_key) where

@@ -5,4 +5,4 @@ mod Editing
 mod Seeing
 mod Standing
 pub mod Written
-mod Walking
+pub mod Walking

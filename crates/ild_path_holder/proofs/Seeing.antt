@@ -3,8 +3,8 @@ use Rattle.std.proofs.Common.{◌≡◌, ℕ, List, [], ◌∷◌, Bool, Some, a
 use Rattle.std.specs.Prelude.{option_and_then}
 use Rattle.std.specs.Option.{option_map_or}
 use Rattle.std.proofs.lemmas.Option.{same_Some}
+use Rattle.ild_data.proofs.Options.{chain_some}
 use Rattle.ild_data.specs.Data.{Data}
-use Rattle.ild_path_changes.proofs.Lifting.{chained}
 use Rattle.ild_path_changes.specs.LastLift.{LastEdit, deleting, inserting, last_seen, setting}
 use Rattle.ild_path_changes.specs.LiftLaws.{MayDelete, MayInsert, MaySet}
 use Rattle.ild_schema.specs.declared.row.Row.{Row}
@@ -43,7 +43,7 @@ module _ (rows : List Row) (f : Holder → List ℕ → Holder) where
       let here : l ≡ (seen rows p, s) = sym (same_Some (seen rows p, s) l last) in
       (u, (λ i. represented alone rows (same i).0 (value_of (f (seen rows (same i)) (here i).1))) ∙ new)
   last_there p q s (t ∷ ss) l u last at made new =
-      let x = chained (λ r. holder_at rows r t ss) (part (seen rows p) s) q at in
+      let x = chain_some (λ r. holder_at rows r t ss) (part (seen rows p) s) q at in
       let next = made x.0 x.1 in
       last_there x.0 q t ss l next.0.0 (sym (ap (option_and_then (λ r. last_holder rows r t ss)) x.1) ∙ last) x.2 next.1 next.0.1
 

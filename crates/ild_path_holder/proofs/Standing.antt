@@ -4,11 +4,11 @@ use Rattle.std.specs.Prelude.{option_and_then}
 use Rattle.std.proofs.lemmas.Option.{same_Some, none-some}
 use Rattle.ild_splice_changes.proofs.Maps.{put-other}
 use Rattle.ild_splice_changes.specs.TreeChange.{TreeStep, child, key, nth, part_at}
+use Rattle.ild_data.proofs.Options.{chain_some}
 use Rattle.ild_data.specs.Data as T
 use Rattle.ild_data.specs.Data.{Data, members_list, members_of}
 use Rattle.ild_data.specs.Key.{put, value_at}
 use Rattle.ild_data.proofs.Lists.{members_list-members_of}
-use Rattle.ild_path_changes.proofs.Lifting.{chained}
 use Rattle.ild_schema.specs.declared.row.Row.{Row}
 use Rattle.ild_path_replaced.specs.Seen.{all_steps, has_whole, tree_steps}
 use Rattle.ild_path_steps.specs.Steps.{IsBut, LeadsTo}
@@ -32,7 +32,7 @@ part_of_part (s ∷ p) q t d x h g = join_at s p q t d x (child s t) refl h (λ 
 -- what is found beside an entry is found with it
 beside_entry : (k name j : List ℕ) (es : List (List ℕ × Data)) (q : List TreeStep) (x : Data) → value_at k es ≡ None → part_at (key j ∷ q) (map_data es) ≡ Some x → part_at (key j ∷ q) (map_data (put k (T.text name) es)) ≡ Some x
 beside_entry k name j es q x none h =
-    let y = chained (λ e. part_at q e) (value_at j (members_list (members_of es))) x h in
+    let y = chain_some (λ e. part_at q e) (value_at j (members_list (members_of es))) x h in
     let there : value_at j es ≡ Some y.0 = ap (value_at j) (sym (members_list-members_of es)) ∙ y.1 in
     let apart : k ≢ j = λ p. none-some y.0 (sym none ∙ ap (λ m. value_at m es) p ∙ there) in
     let still : value_at j (members_list (members_of (put k (T.text name) es))) ≡ Some y.0 = ap (value_at j) (members_list-members_of (put k (T.text name) es)) ∙ put-other k j (T.text name) es apart ∙ there in

@@ -2,8 +2,8 @@
 use Rattle.std.proofs.Common.{◌≡◌, ◌<◌, ◌≤◌, ◌+◌, ◌-◌, ℕ, zero, suc, List, [], ◌∷◌, ◌++◌, append_assoc, true, false, drop, get_or, length, Option, Some, None, refl, sym, ◌∙◌, ap, subst, arith}
 use Rattle.std.specs.Prelude.{IsSomeAnd}
 use Rattle.std.proofs.lemmas.Option.{same_Some}
+use Rattle.ild_data.proofs.Options.{chain_some}
 use Rattle.ild_data.specs.Data.{Data}
-use Rattle.ild_path_changes.proofs.Lifting.{chained}
 use Rattle.ild_schema.specs.Legible.{IsLegible}
 use Rattle.ild_schema.specs.Slots.{form_of}
 use Rattle.ild_schema.specs.Value.{Value}
@@ -47,7 +47,7 @@ first_is [] (suc i) x y ys e is = absurd cc
 first_is (z ∷ xs) zero x y ys e is = let same : z ≡ y = cc e in is ∙ same
 first_is (z ∷ xs) (suc i) x y ys e is = first_is xs i x y ys e is
 
-behind_first : (xs : List (List ℕ)) (i : ℕ) (y : List ℕ) (ys : List (List ℕ)) → drop i xs ≡ y ∷ ys → drop (suc i) xs ≡ ys
+pub behind_first : (xs : List (List ℕ)) (i : ℕ) (y : List ℕ) (ys : List (List ℕ)) → drop i xs ≡ y ∷ ys → drop (suc i) xs ≡ ys
 behind_first [] zero y ys e = absurd cc
 behind_first [] (suc i) y ys e = absurd cc
 behind_first (z ∷ xs) zero y ys e = cc e
@@ -62,14 +62,14 @@ length_is (z ∷ xs) zero y ys e =
     omega (arith, long)
 length_is (z ∷ xs) (suc i) y ys e = let more = length_is xs i y ys e in omega (arith, more)
 
-passed : (rows : List Row) (q l : InSlot) (t : List ℕ) (ts : List (List ℕ)) → holder_at rows q t ts ≡ Some l → is_holder (seen rows l) ≡ true → is_holder (seen rows q) ≡ true
+pub passed : (rows : List Row) (q l : InSlot) (t : List ℕ) (ts : List (List ℕ)) → holder_at rows q t ts ≡ Some l → is_holder (seen rows l) ≡ true → is_holder (seen rows q) ≡ true
 passed rows q l t [] at holds = ap (λ r. is_holder (seen rows r)) (same_Some q l at) ∙ holds
-passed rows q l t (u ∷ us) at holds = let x = chained (λ r. holder_at rows r u us) (part (seen rows q) t) l at in has_part (seen rows q) t x.0 x.1
+passed rows q l t (u ∷ us) at holds = let x = chain_some (λ r. holder_at rows r u us) (part (seen rows q) t) l at in has_part (seen rows q) t x.0 x.1
 
 some_there : {A : Type 0} (P : A → Type 0) (x : A) → IsSomeAnd (Some x) P → P x
 some_there P x h = h
 
-handed : (rows : List Row) (o : Option InSlot) (q : InSlot) (r : Option View) → o ≡ Some q → HandsOut rows o r → IsSomeAnd r (IsPartView rows q)
+pub handed : (rows : List Row) (o : Option InSlot) (q : InSlot) (r : Option View) → o ≡ Some q → HandsOut rows o r → IsSomeAnd r (IsPartView rows q)
 handed rows o q r e h = by r (subst (λ p. HandsOut rows p r) e h) where
   by : (r : Option View) → HandsOut rows (Some q) r → IsSomeAnd r (IsPartView rows q)
   by None h = absurd h
@@ -99,7 +99,7 @@ module _ (rows : List Row) (legible : IsLegible rows) (p l : InSlot) (s : List �
       by : (rest : List (List ℕ)) → drop (k - 1) path ≡ w.now ∷ rest → holder_at rows w.to w.now rest ≡ Some l → w.rest ≡ rest → Next
       by [] at leads is = let long = length_is path (k - 1) w.now [] at in absurd (omega (arith, long, less, one))
       by (t ∷ ts) at leads is =
-          let y = chained (λ q. holder_at rows q t ts) (part (seen rows w.to) w.now) l leads in
+          let y = chain_some (λ q. holder_at rows q t ts) (part (seen rows w.to) w.now) l leads in
           record { segment = t; more = ts; rest_is = is; part_is = y.0; there = ap (part (seen rows w.to)) name_is ∙ y.1; leads = y.2 }
 
     abbrev pub PartClause : Option View → Type 0
@@ -195,7 +195,3 @@ walked_holder rows p l s ss path k steps v w one far =
     let long = length_is path (k - 1) w.now w.rest w.at in
     let none : w.rest ≡ [] = no_more w.rest (length w.rest) refl (omega (arith, long, far, one)) in
     subst (λ q. IsPartView rows q v) (same_Some w.to l (subst (λ ts. holder_at rows w.to w.now ts ≡ Some l) none w.leads)) w.view
-
--- the segment at a place
-pub segment_at : (all path : List (List ℕ)) (k : ℕ) (x y : List ℕ) → x ≡ y → y ≡ get_or all k y → all ≡ path → x ≡ get_or path k x
-segment_at all path k x y same is whole = same ∙ is ∙ ap (λ (zs : List (List ℕ)). get_or zs k y) whole ∙ ap (get_or path k) (sym same)

@@ -6,7 +6,7 @@ use Rattle.std.proofs.lemmas.Option.{same_Some}
 use Rattle.std.proofs.lemmas.Bool.{lt-ltb}
 use Rattle.ild_cbor.specs.Nodes.{HasData}
 use Rattle.ild_cbor.specs.declared.node.Node.{Node}
-use Rattle.ild_typed.specs.Among.{AreAmong}
+use Rattle.ild_data.specs.Among.{AreAmong}
 use Rattle.ild_data.specs.ByteOrder.{without as remove}
 use Rattle.ild_data.specs.Data.{Data}
 use Rattle.ild_data.specs.Limits.{longest_block}

@@ -7,7 +7,7 @@ use Rattle.std.proofs.lemmas.Option.{same_Some}
 use Rattle.std.proofs.lemmas.Bool.{lt-ltb}
 use Rattle.ild_cbor.specs.Nodes.{HasData}
 use Rattle.ild_cbor.specs.declared.node.Node.{Node}
-use Rattle.ild_typed.specs.Among.{AreAmong}
+use Rattle.ild_data.specs.Among.{AreAmong}
 use Rattle.ild_data.specs.ByteOrder.{bytewise}
 use Rattle.ild_data.specs.Data.{Data}
 use Rattle.ild_data.specs.Limits.{longest_block}
@@ -45,9 +45,6 @@ use Rattle.ild_path_block.proofs.Allowing.{view_of}
 use Rattle.ild_hamt.specs.Given.{GivesWay}
 use Rattle.ild_hamt.specs.declared.trail.Trail.{Trail}
 use Rattle.ild_open_held.specs.Held.{IsHeld}
-use Rattle.ild_cbor.specs.Block.{IsBlockOf}
-use Rattle.ild_cbor.specs.Nodes.{IsRoot}
-use Rattle.ild_typed.proofs.Wholes.{one_within}
 use Rattle.ild_view.specs.Reaches.{Reaches}
 use Rattle.ild_view.specs.declared.step.Step.TheVariants as St
 use Rattle.ild_view.specs.View.{IsView, slot_of, table_of}
@@ -97,9 +94,6 @@ told_here (Some a) (Some b) was P Q R is f t u = let same : was ≡ a = cc in f 
 pub still_given : (h : List ℕ → List ℕ) (p : HamtShape) (k : List ℕ) (es : List (List ℕ × Data)) (root : List ℕ) (r : Result (List ℕ) HamtFault) (n : Moment) → GivesWay h p k es (Ok root) n → GivesWay h p k es r n
 still_given h p k es root (Ok b) n all = all
 still_given h p k es root (Err e) n all = tt
-
-pub item_stands : (b : List ℕ) (n : Node) (d x : Data) → IsBlockOf b d → IsRoot n b d → b ≡ spell x → IsTree x → HasData n x
-item_stands b n d x block root e tree = subst (HasData n) (one_within d x block.within tree (sym block.spelled ∙ e)) root.stands
 
 -- ---- one level
 

@@ -16,7 +16,7 @@ use Rattle.ild_view.specs.declared.view.View.{View}
 
 -- ---- the last hop
 
-last_there : (before : List Hop) (above : Hop) → slice_get (before ++ above ∷ []) (length (before ++ above ∷ []) - 1) ≡ Some above
+pub last_there : (before : List Hop) (above : Hop) → slice_get (before ++ above ∷ []) (length (before ++ above ∷ []) - 1) ≡ Some above
 last_there before above =
     let at : length (before ++ above ∷ []) - 1 ≡ length before = omega (arith, length-append before (above ∷ [])) in
     let less : length before < length (before ++ above ∷ []) = omega (arith, length-append before (above ∷ [])) in

@@ -1,7 +1,7 @@
 -- Values that are HAMTs, and what they count.
 use Rattle.std.proofs.Common.{◌≡◌, ℕ, ◌≤◌, List, [], ◌∷◌, true, false, Option, Some, None, refl, ap, arith}
 use Rattle.std.specs.Option.{option_map_or}
-use Rattle.std.proofs.lemmas.Option.{none-some}
+use Rattle.ild_open_held_roots.proofs.Entering.{no_root}
 use Rattle.ild_data.specs.Data.{Data}
 use Rattle.ild_data.specs.declared.hamt_shape.HamtShape.{HamtShape}
 use Rattle.ild_open_held_parts.specs.Leads.{CountsHamts}
@@ -21,7 +21,7 @@ use Rattle.ild_script_meaning.specs.Costs.{met_in}
 use Rattle.ild_typed.specs.At.{InSlot, seen}
 use Rattle.ild_typed.specs.Hamt.{whole}
 use Rattle.ild_typed.specs.Layer as L
-use Rattle.ild_typed.specs.Represented.{layered, represented}
+use Rattle.ild_typed.specs.Represented.{represented}
 use Rattle.ild_typed.specs.Segment.{part}
 use Rattle.ild_typed.specs.Slots.{element_of}
 use Rattle.ild_typed_fronts.specs.Front.{front, fronts_of_pairs, is_hamt, is_root, root_or_map}
@@ -40,14 +40,6 @@ form_there (Some (T.Map key key_at elem place MF.Map)) e = absurd cc
 form_there (Some (T.Map key key_at elem place MF.ListPairs)) e = absurd cc
 form_there (Some (T.Map key key_at elem place (MF.StringPairs i x))) e = absurd cc
 form_there o e = absurd cc
-
--- a root alone has no entries to be represented by
-no_root : (h : List ℕ → List ℕ) (o : Option TypeDef) (d t : Data) → layered (whole h) o (Some (L.hamt d)) ≡ Some t → ⊥
-no_root h (Some (T.Map key key_at value place MF.Map)) d t e = none-some t e
-no_root h (Some (T.Map key key_at value place MF.ListPairs)) d t e = none-some t e
-no_root h (Some (T.Map key key_at value place (MF.StringPairs i x))) d t e = none-some t e
-no_root h (Some (T.Map key key_at value place (MF.Hamt p))) d t e = none-some t e
-no_root h o d t e = none-some t e
 
 pub record IsHamtMap (rows : List Row) (s : Slot) (v : Value) : Type 0 where
   pub pairs : Pairs

@@ -4,6 +4,7 @@ use Rattle.std.specs.Borrow.{Bor}
 use Rattle.std.specs.Prelude.{IfOk}
 use Rattle.std.proofs.lemmas.Option.{none-some, same_Some}
 use Rattle.ild_cbor.specs.declared.why.BlockWhy.{BlockWhy}
+use Rattle.ild_path_hops.proofs.Linking.{last_there}
 use Rattle.ild_data.specs.Data.{Data}
 use Rattle.ild_data.specs.Limits.{deepest}
 use Rattle.ild_data.specs.Spell.{id_of}
@@ -142,12 +143,6 @@ pub block_more : (block : List ℕ) (hops : List Hop) (hop : Hop) → block_behi
 block_more block [] hop = refl
 block_more block (g ∷ hops) hop = block_more (end_block block (trail_blocks g.trail)) hops hop
 
-last_pushed : (hops : List Hop) (hop : Hop) → slice_get (hops ++ hop ∷ []) (length (hops ++ hop ∷ []) - 1) ≡ Some hop
-last_pushed hops hop = subst (λ n. slice_get (hops ++ hop ∷ []) n ≡ Some hop) (many hops) (at_end hops) where
-  at_end : (gs : List Hop) → slice_get (gs ++ hop ∷ []) (length gs) ≡ Some hop
-  at_end [] = refl
-  at_end (g ∷ gs) = at_end gs
-
   count : (gs : List Hop) → length (gs ++ hop ∷ []) ≡ suc (length gs)
   count [] = refl
   count (g ∷ gs) = ap suc (count gs)
@@ -179,9 +174,9 @@ module _ (h : List ℕ → List ℕ) (rows : List Row) (root : View) (block : Li
   data_next low = record {
     front = subst (λ n. Front rows n NextSlot NextFront NextData) (sym x.left) x.entry.entry.front.front;
     low = low;
-    top = λ e. absurd (none-some hop (e ∙ ap (λ (gs : List Hop). slice_get gs (length gs - 1)) pushed ∙ last_pushed hops hop));
+    top = λ e. absurd (none-some hop (e ∙ ap (λ (gs : List Hop). slice_get gs (length gs - 1)) pushed ∙ last_there hops hop));
     inner = λ g e.
-        let same : hop ≡ g = same_Some hop g (sym (e ∙ ap (λ (gs : List Hop). slice_get gs (length gs - 1)) pushed ∙ last_pushed hops hop)) in
+        let same : hop ≡ g = same_Some hop g (sym (e ∙ ap (λ (gs : List Hop). slice_get gs (length gs - 1)) pushed ∙ last_there hops hop)) in
         subst (λ n. IsEntry rows NextSlot n NextData g.entry) (sym x.left) (subst (λ (y : Hop). IsEntry rows NextSlot x.site.room NextData y.entry) same x.entry.entry);
   }
 

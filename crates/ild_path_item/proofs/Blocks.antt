@@ -10,8 +10,10 @@ use Rattle.ild_cbor.specs.Block.{IsBlockOf}
 use Rattle.ild_cbor.specs.Nodes.{IsRoot, HasData}
 use Rattle.ild_cbor.specs.Reading.{fault_of}
 use Rattle.ild_cbor.specs.declared.node.Node.{Node}
+use Rattle.ild_path_block.proofs.Replacing.{part_comes}
+use Rattle.ild_data.proofs.Options.{none_is}
 use Rattle.ild_data.specs.Data as T
-use Rattle.ild_data.specs.Data.{Data, members_list, members_of}
+use Rattle.ild_data.specs.Data.{Data, members_list}
 use Rattle.ild_data.specs.Key.{without}
 use Rattle.ild_data.specs.Limits.{IsWithin}
 use Rattle.ild_data.specs.Spell.{spell}
@@ -30,27 +32,19 @@ use Rattle.ild_path_item.proofs.Shorter.{gone_shorter}
 use Rattle.ild_splice_changes.specs.TreeChange.{Located, applied, one, remove_entry, unchanged}
 use Rattle.ild_typed.specs.Strings.{map_data}
 
-none_of : {A : Type 0} (o : Option A) → is_none o ≡ true → o ≡ None
-none_of None h = refl
-none_of (Some x) h = absurd cc
-
 -- the bytes of an item are a block
 pub no_fault : (n : Node) (b : List ℕ) → ((t : Data) → HasData n t → b ≡ spell t) → fault_of b ≡ None
-no_fault n b is = none_of (fault_of b) (∥∥₁_elim n.stands (Bool-set (is_none (fault_of b)) true) (λ h. ap is_none (block_again b h.of (record { within = h.spells.within; spelled = is h.of h.spells }))))
+no_fault n b is = none_is (fault_of b) (∥∥₁_elim n.stands (Bool-set (is_none (fault_of b)) true) (λ h. ap is_none (block_again b h.of (record { within = h.spells.within; spelled = is h.of h.spells }))))
 
 -- a change within a whole is the change
 within_all : (e : Located) → lift_within [] e ≡ e
 within_all unchanged = refl
 within_all (one p c) = refl
 
--- where no item of the whole is wanted
-not_whole : (change : LastChange) (new : Option Node) (x u : Option Data) → is_whole change ≡ false → NewIs new x → Come change new None x u
-not_whole change new x u not h = record { part = h; holder = λ e. let wrong : true ≡ false = sym e ∙ not in absurd cc }
-
 -- the changed item of a block
 pub makes_changed : (n : Node) (change : LastChange) (new : Option Node) (t : Data) (x u : Option Data) (r : Result (List ℕ) SpliceErr) → IsAt n t [] t → is_whole change ≡ false → NewIs new x
     → ((x u : Option Data) → Come change new None x u → Applies n (located change x u) r) → MakesBytes (spell (applied (located change x u) t)) r
-makes_changed n change new t x u r at not h all = subst (λ e. MakesBytes (spell (applied e t)) r) (within_all (located change x u)) ((all x u (not_whole change new x u not h)).makes t t [] at)
+makes_changed n change new t x u r at not h all = subst (λ e. MakesBytes (spell (applied e t)) r) (within_all (located change x u)) ((all x u (part_comes change new x u not h)).makes t t [] at)
 
 -- ---- a map without an entry
 
@@ -65,7 +59,7 @@ left_block key n b t at within stays made =
 
 pub left_faultless : (key : List ℕ) (n m : Node) (b : List ℕ) → ((t : Data) → HasData n t → IsAt m t [] t) → ChangesStayWithin → Applies m (one [] (remove_entry key)) (Ok b) → fault_of b ≡ None
 left_faultless key n m b roots stays made =
-    none_of (fault_of b)
+    none_is (fault_of b)
     (∥∥₁_elim n.stands (Bool-set (is_none (fault_of b)) true) (λ h. ap is_none (block_again b (applied (one [] (remove_entry key)) h.of) (left_block key m b h.of (roots h.of h.spells) h.spells.within stays made))))
 
 -- it isn't too long

@@ -2,14 +2,17 @@
 use Rattle.std.proofs.Common.{◌≡◌, ◌<◌, ℕ, zero, suc, Bool, true, false, List, [], ◌∷◌, length, cond, Option, Some, None, refl, sym, ◌∙◌, ap, subst, arith}
 use Rattle.std.specs.Prelude.{Err, IfOk, Ok, Result, option_and_then, option_map, slice_set}
 use Rattle.std.specs.declared.alloc.AllocError.{AllocError}
-use Rattle.std.proofs.lemmas.Option.{none-some, same_Some}
+use Rattle.std.proofs.lemmas.Option.{none-some}
+use Rattle.ild_typed.proofs.Structs.{all_count}
+use Rattle.ild_typed.proofs.CleanStructs.{texts_count}
+use Rattle.ild_data.proofs.Options.{chain_some, map_some}
 use Rattle.ild_data.specs.Data as T
 use Rattle.ild_data.specs.Data.{Data}
 use Rattle.ild_data.specs.Key.{same_text}
 use Rattle.ild_path_changes.proofs.Each.{joined}
 use Rattle.ild_path_changes.proofs.Last.{each_field-gone}
 use Rattle.ild_path_changes.proofs.LastLifting.{declared_field, named_to_go}
-use Rattle.ild_path_changes.proofs.Lifting.{chained, each_field-set, opened}
+use Rattle.ild_path_changes.proofs.Lifting.{each_field-set}
 use Rattle.ild_path_changes.specs.Places.{each_field, field_named, field_place}
 use Rattle.ild_path_edits.specs.Table.{refusal_to_delete, slot_to_set}
 use Rattle.ild_path_holder.specs.Along.{is_holder}
@@ -63,26 +66,11 @@ items_set s g x [] ds xs named h = absurd (none-some g named)
 items_set s g x (f ∷ fs) [] xs named h = absurd (none-some xs h)
 items_set s g x (f ∷ fs) (None ∷ os) xs named h = absurd (none-some xs h)
 items_set s g x (f ∷ fs) (Some d ∷ os) xs named h =
-    let y = opened (λ zs. d ∷ zs) (all_items fs os) xs h in
+    let y = map_some (λ zs. d ∷ zs) (all_items fs os) xs h in
     subst (λ zs. all_items (f ∷ fs) (set_field s x (f ∷ fs) (Some d ∷ os)) ≡ option_map (λ e. slice_set zs (field_place s (f ∷ fs)) e) x) y.2
     (set_at s f g fs os y.0 d x (same_text s f.name) named y.1 (λ e. items_set s g x fs os y.0 e y.1))
 
-items_long : (fs : List Field) (ds : List (Option Data)) (xs : List Data) → all_items fs ds ≡ Some xs → length xs ≡ length fs
-items_long [] [] xs h = ap length (sym (same_Some [] xs h))
-items_long [] (o ∷ os) xs h = absurd (none-some xs h)
-items_long (f ∷ fs) [] xs h = absurd (none-some xs h)
-items_long (f ∷ fs) (None ∷ os) xs h = absurd (none-some xs h)
-items_long (f ∷ fs) (Some d ∷ os) xs h =
-    let y = opened (λ zs. d ∷ zs) (all_items fs os) xs h in
-    ap length (sym y.2) ∙ ap suc (items_long fs os y.0 y.1)
-
 -- ---- their texts
-
-texts_long : (xs : List Data) (ps : List (List ℕ)) → texts_in xs ≡ Some ps → length ps ≡ length xs
-texts_long [] ps h = ap length (sym (same_Some [] ps h))
-texts_long (x ∷ xs) ps h =
-    let j = joined (text_in x) (texts_in xs) ps h in
-    ap length (sym j.whole) ∙ ap suc (texts_long xs j.rest j.is_rest)
 
 first_text : (p : List ℕ) (ps : List (List ℕ)) (o : Option (List ℕ)) → cons_both o (Some ps) ≡ option_map (λ t. slice_set (p ∷ ps) 0 t) o
 first_text p ps None = refl
@@ -151,16 +139,16 @@ module _ (rows : List Row) (q : InSlot) (s : List ℕ) (r : StructDef) (delim : 
         → each_field rep r.fields (set_field s o r.fields os) ≡ Some (set_field s (option_map T.text new) r.fields ds) → Becomes rows o new q s r delim n t
     with_field o new g to named each_new =
         let x : Option Data = option_map T.text new in
-        let a = chained (stringjoin delim) (all_items r.fields ds) t (ap (λ z. struct_form z r.fields ds) (sym form) ∙ made) in
-        let b = opened T.text (option_and_then (join delim) (texts_in a.0)) t a.2 in
-        let c = chained (join delim) (texts_in a.0) b.0 b.1 in
-        let long = items_long r.fields ds a.0 a.1 in
+        let a = chain_some (stringjoin delim) (all_items r.fields ds) t (ap (λ z. struct_form z r.fields ds) (sym form) ∙ made) in
+        let b = map_some T.text (option_and_then (join delim) (texts_in a.0)) t a.2 in
+        let c = chain_some (join delim) (texts_in a.0) b.0 b.1 in
+        let long = all_count r.fields ds a.0 a.1 in
         record {
           old = b.0;
           parts = c.0;
           text = sym b.2;
           whole = c.2;
-          count = texts_long a.0 c.0 c.1 ∙ long;
+          count = texts_count a.0 c.0 c.1 ∙ long;
           is = with_data rows q s o ∙ ap (data_in rows q s) to
               ∙ (λ i. option_and_then (λ zs. layered alone (known i) (Some (L.struct zs))) (each_new i))
               ∙ ap (λ z. struct_form z r.fields (set_field s x r.fields ds)) form

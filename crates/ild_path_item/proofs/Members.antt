@@ -4,6 +4,7 @@ use Rattle.std.specs.Option.{option_map_or}
 use Rattle.std.specs.Prelude.{Err, IfOk, Ok, Result, option_and_then, option_map}
 use Rattle.std.specs.declared.alloc.AllocError.{AllocError}
 use Rattle.std.proofs.lemmas.Option.{none-some, same_Some}
+use Rattle.ild_data.proofs.Options.{chain_some, map_some}
 use Rattle.ild_data.specs.Data as T
 use Rattle.ild_data.specs.Data.{Data}
 use Rattle.ild_data.specs.Key.{put, same_text}
@@ -12,7 +13,6 @@ use Rattle.ild_path_block.specs.Items.{becoming}
 use Rattle.ild_path_block.specs.declared.edit.PartEdit.{PartEdit}
 use Rattle.ild_path_block.specs.declared.edit.PartEdit.TheVariants as E
 use Rattle.ild_path_changes.proofs.Datas.{data_of}
-use Rattle.ild_path_changes.proofs.Lifting.{chained, opened}
 use Rattle.ild_path_changes.proofs.Represented.{in_holders}
 use Rattle.ild_path_edits.specs.Table.{never, refusal_to_delete, slot_to_insert, slot_to_set}
 use Rattle.ild_path_holder.specs.Along.{is_holder}
@@ -101,23 +101,23 @@ textual : (form : UnionForm) (ms : List Member) (n k : ℕ) (y : Data) (j t : Li
 textual U.Kinded ms n k y j t e = textual_then (member_form U.Kinded (T.text t)) (slice_get ms k) (λ m. textual_then _ (mark_kind m.mark) (λ w. textual_if (same_kind w (kind_word_of (T.text t))) t))
 textual U.StringPrefix ms n k y j t e = textual_then (member_form U.StringPrefix (T.text t)) (slice_get ms k) (λ m. textual_then (marked_form U.StringPrefix (T.text t)) (mark_text m.mark) (λ name. refl))
 textual U.Keyed ms n k y j t e =
-    let m = chained (member_form U.Keyed y) (slice_get ms n) (T.text j) e in
-    let x = chained (marked_form U.Keyed y) (mark_text (m.0).mark) (T.text j) m.2 in
+    let m = chain_some (member_form U.Keyed y) (slice_get ms n) (T.text j) e in
+    let x = chain_some (marked_form U.Keyed y) (mark_text (m.0).mark) (T.text j) m.2 in
     text_made (map_data ((x.0, y) ∷ [])) j x.2 refl
 textual U.BytesPrefix ms n k y j t e =
-    let m = chained (member_form U.BytesPrefix y) (slice_get ms n) (T.text j) e in
-    let x = chained (marked_form U.BytesPrefix y) (mark_text (m.0).mark) (T.text j) m.2 in
-    let f = chained (λ front. option_map (λ s. T.bytes (front ++ s)) (bytes_in y)) (bytes_of_hex x.0) (T.text j) x.2 in
-    let z = opened (λ s. T.bytes (f.0 ++ s)) (bytes_in y) (T.text j) f.2 in
+    let m = chain_some (member_form U.BytesPrefix y) (slice_get ms n) (T.text j) e in
+    let x = chain_some (marked_form U.BytesPrefix y) (mark_text (m.0).mark) (T.text j) m.2 in
+    let f = chain_some (λ front. option_map (λ s. T.bytes (front ++ s)) (bytes_in y)) (bytes_of_hex x.0) (T.text j) x.2 in
+    let z = map_some (λ s. T.bytes (f.0 ++ s)) (bytes_in y) (T.text j) f.2 in
     text_made (T.bytes (f.0 ++ z.0)) j (ap Some z.2) refl
 textual (U.Envelope key content) ms n k y j t e =
-    let m = chained (member_form (U.Envelope key content) y) (slice_get ms n) (T.text j) e in
-    let x = chained (marked_form (U.Envelope key content) y) (mark_text (m.0).mark) (T.text j) m.2 in
+    let m = chain_some (member_form (U.Envelope key content) y) (slice_get ms n) (T.text j) e in
+    let x = chain_some (marked_form (U.Envelope key content) y) (mark_text (m.0).mark) (T.text j) m.2 in
     text_made (map_data (put key (T.text x.0) ((content, y) ∷ []))) j x.2 refl
 textual (U.Inline key) ms n k y j t e =
-    let m = chained (member_form (U.Inline key) y) (slice_get ms n) (T.text j) e in
-    let x = chained (marked_form (U.Inline key) y) (mark_text (m.0).mark) (T.text j) m.2 in
-    let z = chained (inlined key x.0) (members_in y) (T.text j) x.2 in
+    let m = chain_some (member_form (U.Inline key) y) (slice_get ms n) (T.text j) e in
+    let x = chain_some (marked_form (U.Inline key) y) (mark_text (m.0).mark) (T.text j) m.2 in
+    let z = chain_some (inlined key x.0) (members_in y) (T.text j) x.2 in
     map_if _ (map_data (put key (T.text x.0) z.0)) j z.2 refl
 
 -- what it becomes, in a block or as a whole
@@ -134,7 +134,7 @@ module _ (rows : List Row) (q : InSlot) (s : List ℕ) (w : Value) (u : UnionDef
   module _ (v : Value) (n : ℕ) (is : seen rows q ≡ member u.members n v) where
     set_member : (slot : Slot) (x : Data) → slot_to_set (seen rows q) s ≡ Some slot → represented alone rows slot w ≡ Some x → IsSet rows w q s u x
     set_member slot x there part_is =
-        let y = opened (λ (p : ℕ × Member). plainly (p.1).ty) (member_named s u.members) slot (sym (ap (λ h. slot_to_set h s) is) ∙ there) in
+        let y = map_some (λ (p : ℕ × Member). plainly (p.1).ty) (member_named s u.members) slot (sym (ap (λ h. slot_to_set h s) is) ∙ there) in
         let k = (y.0).0 in
         let m = (y.0).1 in
         let held : represented alone rows (plainly m.ty) w ≡ Some x = ap (λ r. represented alone rows r w) y.2 ∙ part_is in

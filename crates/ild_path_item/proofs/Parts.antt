@@ -6,6 +6,7 @@ use Rattle.std.proofs.lemmas.Option.{none-some, same_Some}
 use Rattle.ild_cbor.specs.Nodes.{HasData}
 use Rattle.ild_cbor.specs.Scalar.{text_of}
 use Rattle.ild_cbor.specs.declared.node.Node.{Node}
+use Rattle.ild_data.proofs.Options.{chain_some, map_some}
 use Rattle.ild_data.specs.Data as T
 use Rattle.ild_data.specs.Data.{Data}
 use Rattle.ild_data.specs.Key.{same_text}
@@ -14,7 +15,6 @@ use Rattle.ild_path_block.specs.Items.{is_pairs_map, is_text_struct}
 use Rattle.ild_path_block.specs.declared.edit.PartEdit.{PartEdit}
 use Rattle.ild_path_block.specs.declared.edit.PartEdit.TheVariants as E
 use Rattle.ild_path_changes.proofs.LastLifting.{declared_field}
-use Rattle.ild_path_changes.proofs.Lifting.{chained, opened}
 use Rattle.ild_path_changes.specs.Places.{field_named}
 use Rattle.ild_path_edits.specs.Table.{slot_to_set}
 use Rattle.ild_path_holder.specs.Along.{is_holder}
@@ -136,18 +136,18 @@ module _ (rows : List Row) (legible : IsLegible rows) (q : InSlot) (t : Data) (d
   struct_text S.Tuple fs ds is made = never is
   struct_text S.ListPairs fs ds is made = never is
   struct_text (S.StringPairs inner entry) fs ds is made =
-      let x = chained (stringpairs inner entry) (field_entries fs ds) t made in
-      let y = opened T.text (option_and_then (join_pairs inner entry) (text_pairs x.0)) t x.2 in
+      let x = chain_some (stringpairs inner entry) (field_entries fs ds) t made in
+      let y = map_some T.text (option_and_then (join_pairs inner entry) (text_pairs x.0)) t x.2 in
       (y.0, sym y.2)
   struct_text (S.StringJoin delim) fs ds is made =
-      let x = chained (stringjoin delim) (all_items fs ds) t made in
-      let y = opened T.text (option_and_then (join delim) (texts_in x.0)) t x.2 in
+      let x = chain_some (stringjoin delim) (all_items fs ds) t made in
+      let y = map_some T.text (option_and_then (join delim) (texts_in x.0)) t x.2 in
       (y.0, sym y.2)
 
   map_text : (form : MapForm) (es : List (List ℕ × Data)) → is_pairs_map form ≡ true → map_form alone form (L.map es) ≡ Some t → (j : List ℕ) × (t ≡ T.text j)
   map_text M.Map es is made = never is
   map_text M.ListPairs es is made = never is
-  map_text (M.StringPairs inner entry) es is made = let y = opened T.text (option_and_then (join_pairs inner entry) (text_pairs es)) t made in (y.0, sym y.2)
+  map_text (M.StringPairs inner entry) es is made = let y = map_some T.text (option_and_then (join_pairs inner entry) (text_pairs es)) t made in (y.0, sym y.2)
   map_text (M.Hamt shape) es is made = never is
 
   pub stands_text : (j : List ℕ) × (t ≡ T.text j)

@@ -1,12 +1,12 @@
 -- A view of what holds parts is that of a piece: implicit values are scalars.
 use Rattle.std.proofs.Common.{◌≡◌, ℕ, Bool, true, false, List, Option, Some, None, refl, sym, ◌∙◌, ap}
 use Rattle.std.proofs.lemmas.Option.{none-some, same_Some}
+use Rattle.ild_data.proofs.Options.{map_some}
 use Rattle.ild_data.specs.Data as T
 use Rattle.ild_data.specs.Data.{Data, items_of}
 use Rattle.ild_path_holder.specs.Along.{is_holder}
 use Rattle.ild_path_steps.proofs.Holding.{Held, held_by, of_any, of_elements, of_entries, of_fields, of_member, of_nothing}
 use Rattle.ild_path_block.specs.Items.{is_pairs_map, is_refusing, is_text_struct}
-use Rattle.ild_path_changes.proofs.Lifting.{opened}
 use Rattle.ild_path_item.specs.Texts.{is_text_form}
 use Rattle.ild_schema.specs.Copies.{base}
 use Rattle.ild_schema.specs.Rules.{is_of}
@@ -119,13 +119,13 @@ bare_type (D.Copy target) a b c = refl
 
 -- ---- what stands as a text has one that could refuse
 
-other : {A : Type 0} (u : Data) (j : List ℕ) → u ≡ T.text j → text_in u ≡ None → A
+pub other : {A : Type 0} (u : Data) (j : List ℕ) → u ≡ T.text j → text_in u ≡ None → A
 other u j e none = absurd (none-some j (sym none ∙ ap text_in e))
 
 struct_refusing : (r : StructDef) (form : StructForm) (ds : List (Option Data)) (j : List ℕ) → r.form ≡ form → struct_form form r.fields ds ≡ Some (T.text j) → is_refusing (Some (D.Struct r)) ≡ true
-struct_refusing r S.Map ds j is made = let x = opened (λ es. map_data (in_key_order es)) (field_entries r.fields ds) (T.text j) made in other (map_data (in_key_order x.0)) j x.2 refl
-struct_refusing r S.Tuple ds j is made = let x = opened (λ xs. T.list (items_of xs)) (tuple_items r.fields ds) (T.text j) made in other (T.list (items_of x.0)) j x.2 refl
-struct_refusing r S.ListPairs ds j is made = let x = opened listpairs (field_entries r.fields ds) (T.text j) made in other (listpairs x.0) j x.2 refl
+struct_refusing r S.Map ds j is made = let x = map_some (λ es. map_data (in_key_order es)) (field_entries r.fields ds) (T.text j) made in other (map_data (in_key_order x.0)) j x.2 refl
+struct_refusing r S.Tuple ds j is made = let x = map_some (λ xs. T.list (items_of xs)) (tuple_items r.fields ds) (T.text j) made in other (T.list (items_of x.0)) j x.2 refl
+struct_refusing r S.ListPairs ds j is made = let x = map_some listpairs (field_entries r.fields ds) (T.text j) made in other (listpairs x.0) j x.2 refl
 struct_refusing r (S.StringPairs inner entry) ds j is made = ap is_text_struct is
 struct_refusing r (S.StringJoin delim) ds j is made = ap is_text_struct is
 

@@ -3,12 +3,12 @@ use Rattle.std.proofs.Common.{◌≡◌, ℕ, Bool, true, false, List, [], ◌�
 use Rattle.std.specs.Option.{option_map_or}
 use Rattle.std.specs.Prelude.{option_and_then}
 use Rattle.std.proofs.lemmas.Option.{none-some, same_Some}
+use Rattle.ild_data.proofs.Options.{map_some}
 use Rattle.ild_data.specs.Data as T
 use Rattle.ild_data.specs.Data.{Data}
 use Rattle.ild_data.specs.Key.{value_at}
 use Rattle.ild_path_apply.specs.Applies.{is_whole}
 use Rattle.ild_path_block.specs.Items.{is_refusing, is_text_struct}
-use Rattle.ild_path_changes.proofs.Lifting.{opened}
 use Rattle.ild_path_changes.specs.LastLift.{at_place, delete_seen, insert_seen, last_map, last_struct, map_last, named_last, set_seen, struct_last, with_data}
 use Rattle.ild_path_changes.specs.Pairs.{at_pair}
 use Rattle.ild_path_changes.specs.Places.{each_field, field_data, field_named, field_place, left_out, place_of, written, written_before}
@@ -163,9 +163,9 @@ module _ (rows : List Row) (def : TypeDef) (t : Data) (plain : is_refusing (Some
   -- ---- what such a holder is
 
   struct_parts : (form : StructForm) (fs : List Field) (ds : List (Option Data)) → is_text_struct form ≡ false → struct_form form fs ds ≡ Some t → has_parts t ≡ true
-  struct_parts S.Map fs ds bare made = let y = opened (λ es. map_data (in_key_order es)) (field_entries fs ds) t made in ap has_parts (sym y.2)
-  struct_parts S.Tuple fs ds bare made = let y = opened (λ xs. T.list (T.items_of xs)) (tuple_items fs ds) t made in ap has_parts (sym y.2)
-  struct_parts S.ListPairs fs ds bare made = let y = opened listpairs (field_entries fs ds) t made in ap has_parts (sym y.2)
+  struct_parts S.Map fs ds bare made = let y = map_some (λ es. map_data (in_key_order es)) (field_entries fs ds) t made in ap has_parts (sym y.2)
+  struct_parts S.Tuple fs ds bare made = let y = map_some (λ xs. T.list (T.items_of xs)) (tuple_items fs ds) t made in ap has_parts (sym y.2)
+  struct_parts S.ListPairs fs ds bare made = let y = map_some listpairs (field_entries fs ds) t made in ap has_parts (sym y.2)
   struct_parts (S.StringPairs inner entry) fs ds bare made = never bare
   struct_parts (S.StringJoin delim) fs ds bare made = never bare
 

@@ -2,6 +2,8 @@
 use Rattle.std.proofs.Common.{◌≡◌, ℕ, List, [], ◌∷◌, Bool, false, Option, Some, None, refl, ap, sym, subst, ◌∙◌}
 use Rattle.std.specs.Prelude.{is_none, option_map, option_and_then}
 use Rattle.std.specs.Option.{option_map_or}
+use Rattle.ild_schema.proofs.Telling.{some_there}
+use Rattle.ild_data.proofs.Options.{chain_some}
 use Rattle.ild_data.specs.Data.{Data}
 use Rattle.ild_data.specs.Key.{Rises, value_at, put, without}
 use Rattle.ild_data.specs.Trie.{trie}
@@ -15,7 +17,7 @@ use Rattle.ild_schema.specs.declared.number.TypeNo.{TypeNo}
 use Rattle.ild_schema.specs.declared.row.Row.{Row}
 use Rattle.ild_schema.specs.Slots.{form_of}
 use Rattle.ild_schema.specs.Value as V
-use Rattle.ild_schema.specs.Value.{Value, pairs_of, optionals_of, values_of}
+use Rattle.ild_schema.specs.Value.{Value, pairs_of, optionals_of}
 use Rattle.ild_typed.specs.At.{InSlot}
 use Rattle.ild_data.specs.declared.hamt_shape.HamtShape.{HamtShape}
 use Rattle.ild_typed.specs.Hamt.{whole}
@@ -35,10 +37,9 @@ use Rattle.ild_path_edits.proofs.HeldTyped.{with_slot}
 use Rattle.ild_path_changes.proofs.Datas.{each_pair, data_of}
 use Rattle.ild_path_changes.proofs.Each.{each_pair-at, each_pair-put, rises_each}
 use Rattle.ild_path_changes.proofs.Last.{each_pair-without}
-use Rattle.ild_path_changes.proofs.Lifting.{chained}
 use Rattle.ild_path_changes.proofs.Represented.{each_pair-some, in_holders}
 use Rattle.ild_path_judged.proofs.Last.{HeldBy}
-use Rattle.ild_path_judged.proofs.Tries.{trie_put, trie_without, none_is, some_is}
+use Rattle.ild_path_judged.proofs.Tries.{trie_put, trie_without, some_is}
 
 in_rising : (paired : Bool) (ps : List (List ℕ × Value)) → paired ≡ false → AreInOrder paired ps → Rises ps
 in_rising paired ps e h = subst (λ b. AreInOrder b ps) e h
@@ -77,7 +78,7 @@ module _ (h : List ℕ → List ℕ) (rows : List Row) where
       let same : put s d.0 es ≡ new = same_some (sym (each_pair-put (rep elem) s c d.0 xs es e d.1) ∙ g) in
       let old = each_pair-some (rep elem) s xs es v e there in
       let found : value_at s es ≡ Some old.0 = each_pair-at (rep elem) xs es s e ∙ ap (option_and_then (rep elem)) there ∙ old.1 in
-      subst (λ new. is_none (trie h p new 0) ≡ false) same (some_is (trie h p (put s d.0 es) 0) (trie_put h p es up (none_is (trie h p es 0) is) s d.0 old.0 found))
+      subst (λ new. is_none (trie h p new 0) ≡ false) same (some_is (trie h p (put s d.0 es) 0) (trie_put h p es up (some_there (trie h p es 0) is) s d.0 old.0 found))
     where
       same_some : {X : Type 0} {x y : X} → ◌≡◌ {A = Option X} (Some x) (Some y) → x ≡ y
       same_some e = cc
@@ -85,14 +86,14 @@ module _ (h : List ℕ → List ℕ) (rows : List Row) where
   cut_stays : (p : HamtShape) (elem : Slot) (s : List ℕ) (xs : List (List ℕ × Value)) (es : List (List ℕ × Data)) → each_pair (rep elem) xs ≡ Some es → Rises es
       → exhausts_by (MF.Hamt p) (Some es) ≡ false → exhausts_by (MF.Hamt p) (each_pair (rep elem) (without s xs)) ≡ false
   cut_stays p elem s xs es e up is =
-      ap (exhausts_by (MF.Hamt p)) (each_pair-without (rep elem) s xs es e) ∙ some_is (trie h p (without s es) 0) (trie_without h p es up (none_is (trie h p es 0) is) s)
+      ap (exhausts_by (MF.Hamt p)) (each_pair-without (rep elem) s xs es e) ∙ some_is (trie h p (without s es) 0) (trie_without h p es up (some_there (trie h p es 0) is) s)
 
   module _ (is_key : ℕ → List ℕ → Bool) (schema : IsSchema rows) (keys : TestsKeys rows is_key) where
     -- the data of the pairs that a holder of data has
     pairs_there : (slot : Slot) (v : Value) (d : Data) (key : ℕ) (elem : Slot) (paired : Bool) (ps : List (List ℕ × Value)) → rep slot v ≡ Some d → holder_of rows slot v ≡ entries key elem paired ps
         → (es : List (List ℕ × Data)) × (each_pair (rep elem) ps ≡ Some es)
     pairs_there slot v d key elem paired ps e k =
-        let x = chained (λ es. layered (whole h) (form_of rows slot) (Some (L.map es))) (each_pair (rep elem) ps) d
+        let x = chain_some (λ es. layered (whole h) (form_of rows slot) (Some (L.map es))) (each_pair (rep elem) ps) d
         (ap (data_of (whole h) (form_of rows slot) rep slot) (sym k) ∙ sym (in_holders (whole h) rows slot v) ∙ e) in
         (x.0, x.1)
 

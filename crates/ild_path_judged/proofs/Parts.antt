@@ -1,8 +1,9 @@
 -- A test of layers that no part of a holder meets: of the parts, and of what a part that is set, inserted or deleted makes of the holder.
-use Rattle.std.proofs.Common.{◌≡◌, ℕ, zero, suc, cond, List, [], ◌∷◌, length, slice_get, insert, Bool, true, false, ◌||◌, Option, Some, None, refl, ap, sym, ◌∙◌, subst}
+use Rattle.std.proofs.Common.{◌≡◌, ℕ, zero, suc, cond, List, [], ◌∷◌, length, slice_get, insert, Bool, true, false, Option, Some, None, refl, ap, sym, ◌∙◌, subst}
 use Rattle.std.specs.Prelude.{IfSome, slice_set, remove, option_map, option_and_then}
 use Rattle.std.specs.Option.{option_map_or}
 use Rattle.std.proofs.lemmas.Option.{same_Some, none-some}
+use Rattle.std.proofs.lemmas.Bool.{or_parts, or_from}
 use Rattle.ild_data.specs.Data as D
 use Rattle.ild_data.specs.Data.{Data}
 use Rattle.ild_data.specs.Key.{same_text, value_at}
@@ -31,13 +32,6 @@ use Rattle.ild_path_edits.proofs.Typing.{Each, each_got, each_with, each_inserte
 use Rattle.ild_path_edits.proofs.Entries.{field-there, put_by-there}
 use Rattle.ild_typed_fronts.proofs.Holding.{to_declared, unless_some}
 use Rattle.ild_typed_fronts.proofs.Pathing.{holder_back}
-
-pub neither : (a b : Bool) → (a || b) ≡ false → (a ≡ false) × (b ≡ false)
-neither true b h = absurd cc
-neither false b h = (refl, h)
-
-pub both_false : (a b : Bool) → a ≡ false → b ≡ false → (a || b) ≡ false
-both_false a b p q = λ i. p i || q i
 
 module _ (test : Option TypeDef → Value → Bool) (rows : List Row) where
   abbrev pub Free : Slot → Value → Type 0
@@ -69,32 +63,32 @@ module _ (test : Option TypeDef → Value → Bool) (rows : List Row) where
 
   values_each : (u : Slot) (vs : Values) → some_value test rows u vs ≡ false → Each (Free u) (values_list vs)
   values_each u V.no_values a = tt
-  values_each u (V.value v vs) a = let x = neither (some_layer test rows u v) (some_value test rows u vs) a in (x.0, values_each u vs x.1)
+  values_each u (V.value v vs) a = let x = or_parts (some_layer test rows u v) (some_value test rows u vs) a in (x.0, values_each u vs x.1)
 
   each_values : (u : Slot) (xs : List Value) → Each (Free u) xs → some_value test rows u (values_of xs) ≡ false
   each_values u [] a = refl
-  each_values u (x ∷ xs) a = both_false (some_layer test rows u x) (some_value test rows u (values_of xs)) a.0 (each_values u xs a.1)
+  each_values u (x ∷ xs) a = or_from (some_layer test rows u x) (some_value test rows u (values_of xs)) a.0 (each_values u xs a.1)
 
   pairs_each : (u : Slot) (ps : Pairs) → some_pair test rows u ps ≡ false → Each (EntryFree u) (pairs_list ps)
   pairs_each u V.no_pairs a = tt
-  pairs_each u (V.pair k v ps) a = let x = neither (some_layer test rows u v) (some_pair test rows u ps) a in (x.0, pairs_each u ps x.1)
+  pairs_each u (V.pair k v ps) a = let x = or_parts (some_layer test rows u v) (some_pair test rows u ps) a in (x.0, pairs_each u ps x.1)
 
   each_pairs : (u : Slot) (xs : List (List ℕ × Value)) → Each (EntryFree u) xs → some_pair test rows u (pairs_of xs) ≡ false
   each_pairs u [] a = refl
-  each_pairs u (x ∷ xs) a = both_false (some_layer test rows u x.1) (some_pair test rows u (pairs_of xs)) a.0 (each_pairs u xs a.1)
+  each_pairs u (x ∷ xs) a = or_from (some_layer test rows u x.1) (some_pair test rows u (pairs_of xs)) a.0 (each_pairs u xs a.1)
 
   fields_each : (fs : List Field) (os : Optionals) → some_field test rows fs os ≡ false → EachFree fs (optionals_list os)
   fields_each [] os a = tt
   fields_each (f ∷ fs) V.no_optionals a = tt
   fields_each (f ∷ fs) (V.absent os) a = (tt, fields_each fs os a)
-  fields_each (f ∷ fs) (V.present v os) a = let x = neither (some_layer test rows f.slot v) (some_field test rows fs os) a in (x.0, fields_each fs os x.1)
+  fields_each (f ∷ fs) (V.present v os) a = let x = or_parts (some_layer test rows f.slot v) (some_field test rows fs os) a in (x.0, fields_each fs os x.1)
 
   each_fields : (fs : List Field) (xs : List (Option Value)) → EachFree fs xs → some_field test rows fs (optionals_of xs) ≡ false
   each_fields fs [] a = refl
   each_fields [] (None ∷ xs) a = refl
   each_fields [] (Some v ∷ xs) a = refl
   each_fields (f ∷ fs) (None ∷ xs) a = each_fields fs xs a.1
-  each_fields (f ∷ fs) (Some v ∷ xs) a = both_false (some_layer test rows f.slot v) (some_field test rows fs (optionals_of xs)) a.0 (each_fields fs xs a.1)
+  each_fields (f ∷ fs) (Some v ∷ xs) a = or_from (some_layer test rows f.slot v) (some_field test rows fs (optionals_of xs)) a.0 (each_fields fs xs a.1)
 
   -- ---- a value and its holder
 
@@ -127,22 +121,22 @@ module _ (test : Option TypeDef → Value → Bool) (rows : List Row) where
   parts_seen is_key slot (V.bytes s) t a = (tt, tt)
   parts_seen is_key slot (V.link s) t a = (tt, tt)
   parts_seen is_key slot (V.list vs) t a =
-      let x = neither (test (form_of rows slot) (V.list vs)) (option_map_or (λ u. some_value test rows u vs) (element_of (form_of rows slot)) false) a in (
+      let x = or_parts (test (form_of rows slot) (V.list vs)) (option_map_or (λ u. some_value test rows u vs) (element_of (form_of rows slot)) false) a in (
         own_seen slot (V.list vs) x.0,
         subst (λ G. option_map_or (λ u. some_value test rows u vs) (element_of G) false ≡ false → PartsFree (list_holder G vs)) (sym t.2) (λ b. values_each t.0 vs b) x.1,
       )
   parts_seen is_key slot (V.map ps) t a =
-      let x = neither (test (form_of rows slot) (V.map ps)) (option_map_or (λ u. some_pair test rows u ps) (element_of (form_of rows slot)) false) a in (
+      let x = or_parts (test (form_of rows slot) (V.map ps)) (option_map_or (λ u. some_pair test rows u ps) (element_of (form_of rows slot)) false) a in (
         own_seen slot (V.map ps) x.0,
         subst (λ G. option_map_or (λ u. some_pair test rows u ps) (element_of G) false ≡ false → PartsFree (map_holder G ps)) (sym t.5) (λ b. pairs_each t.2 ps b) x.1,
       )
   parts_seen is_key slot (V.struct os) t a =
-      let x = neither (test (form_of rows slot) (V.struct os)) (some_field test rows (fields_of (form_of rows slot)) os) a in (
+      let x = or_parts (test (form_of rows slot) (V.struct os)) (some_field test rows (fields_of (form_of rows slot)) os) a in (
         own_seen slot (V.struct os) x.0,
         subst (λ G. some_field test rows (fields_of G) os ≡ false → PartsFree (struct_holder G os)) (sym t.1) (λ b. fields_each (t.0).fields os b) x.1,
       )
   parts_seen is_key slot (V.union n v) t a =
-      let x = neither (test (form_of rows slot) (V.union n v)) (option_map_or (λ u. some_layer test rows u v) (member_of (form_of rows slot) n) false) a in (
+      let x = or_parts (test (form_of rows slot) (V.union n v)) (option_map_or (λ u. some_layer test rows u v) (member_of (form_of rows slot) n) false) a in (
         own_seen slot (V.union n v) x.0,
         subst (λ G. option_map_or (λ u. some_layer test rows u v) (member_of G n) false ≡ false → PartsFree (union_holder G n v)) (sym t.2) (λ b. member_parts (slice_get (t.0).members n) v b) x.1,
       )
@@ -180,17 +174,17 @@ module _ (test : Option TypeDef → Value → Bool) (rows : List Row) where
 
     pub from_parts : (slot : Slot) (k : Holder) → Held slot k → LayerPasses test rows slot k → PartsFree k → Free slot (value_of k)
     from_parts slot (fields fs os) t o a =
-        both_false (test (form_of rows slot) (V.struct (optionals_of os))) (some_field test rows (fields_of (form_of rows slot)) (optionals_of os)) o
+        or_from (test (form_of rows slot) (V.struct (optionals_of os))) (some_field test rows (fields_of (form_of rows slot)) (optionals_of os)) o
         (subst (λ G. some_field test rows (fields_of G) (optionals_of os) ≡ false) (sym t.1) (each_fields (t.0).fields os (subst (λ gs. EachFree gs os) t.2 a)))
     from_parts slot (member ms n v) t o a =
-        both_false (test (form_of rows slot) (V.union n v)) (option_map_or (λ u. some_layer test rows u v) (member_of (form_of rows slot) n) false) o
+        or_from (test (form_of rows slot) (V.union n v)) (option_map_or (λ u. some_layer test rows u v) (member_of (form_of rows slot) n) false) o
         (subst (λ G. option_map_or (λ u. some_layer test rows u v) (member_of G n) false ≡ false) (sym t.2)
         (parts_member (slice_get (t.0).members n) v (subst (λ ns. IfSome (slice_get ns n) (λ m. Free (plainly m.ty) v)) t.3 a)))
     from_parts slot (entries key elem paired ps) t o a =
-        both_false (test (form_of rows slot) (V.map (pairs_of ps))) (option_map_or (λ u. some_pair test rows u (pairs_of ps)) (element_of (form_of rows slot)) false) o
+        or_from (test (form_of rows slot) (V.map (pairs_of ps))) (option_map_or (λ u. some_pair test rows u (pairs_of ps)) (element_of (form_of rows slot)) false) o
         (subst (λ G. option_map_or (λ u. some_pair test rows u (pairs_of ps)) (element_of G) false ≡ false) (sym t.4) (each_pairs elem ps a))
     from_parts slot (elements elem vs) t o a =
-        both_false (test (form_of rows slot) (V.list (values_of vs))) (option_map_or (λ u. some_value test rows u (values_of vs)) (element_of (form_of rows slot)) false) o
+        or_from (test (form_of rows slot) (V.list (values_of vs))) (option_map_or (λ u. some_value test rows u (values_of vs)) (element_of (form_of rows slot)) false) o
         (subst (λ G. option_map_or (λ u. some_value test rows u (values_of vs)) (element_of G) false ≡ false) (sym t.1) (each_values elem vs a))
     from_parts slot (any_entries ms) t o a = refl
     from_parts slot (any_elements ds) t o a = refl

@@ -66,10 +66,6 @@ module _ (h : List ℕ → List ℕ) (p : HamtShape) (es : List (List ℕ × Dat
       ap is_some (tried (without k es) (rises_without k es up) ∙ ap node_in (sym (sorted_without k es up)))
       ∙ remove-stands h p left 0 sorted k (in_order-sorted es) node_there
 
-pub none_is : {X : Type 0} (o : Option X) → is_none o ≡ false → is_some o ≡ true
-none_is None e = absurd cc
-none_is (Some x) e = refl
-
 pub some_is : {X : Type 0} (o : Option X) → is_some o ≡ true → is_none o ≡ false
 some_is None e = absurd cc
 some_is (Some x) e = refl

@@ -3,12 +3,13 @@ use Rattle.std.proofs.Common.{◌≡◌, ℕ, suc, List, [], ◌∷◌, Bool, tr
 use Rattle.std.specs.Prelude.{is_some, option_and_then}
 use Rattle.std.proofs.lemmas.Option.{same_Some, none-some}
 use Rattle.ild_splice_changes.specs.Differences.{at_item, at_key}
+use Rattle.ild_data.proofs.Options.{map_some}
 use Rattle.ild_data.specs.Data as T
 use Rattle.ild_data.specs.Data.{Data}
 use Rattle.ild_data.specs.Key.{same_text, value_at}
 use Rattle.ild_data.proofs.Lists.{members_list-members_of}
 use Rattle.ild_path_changes.proofs.Fields.{risen-at, written-at}
-use Rattle.ild_path_changes.proofs.Lifting.{opened, written_is}
+use Rattle.ild_path_changes.proofs.Lifting.{written_is, none_there}
 use Rattle.ild_path_changes.specs.LastLift.{map_last, struct_last}
 use Rattle.ild_path_changes.specs.Pairs.{at_pair}
 use Rattle.ild_path_changes.specs.Places.{field_data, field_named, field_place, left_out, place_of, written, written_before}
@@ -53,12 +54,6 @@ absent_at a true o rest h more = refl
 absent_at true false o rest h more = more h
 absent_at false false o rest h more = absurd cc
 
-absent_data : (k : List ℕ) (fs : List Field) (ds : List (Option Data)) → are_absent fs ds ≡ true → field_data k fs ds ≡ None
-absent_data k [] ds h = refl
-absent_data k (f ∷ fs) [] h = refl
-absent_data k (f ∷ fs) (Some d ∷ os) h = absurd cc
-absent_data k (f ∷ fs) (None ∷ os) h = absent_at f.optional (same_text k f.name) (field_data k fs os) (are_absent fs os) h (absent_data k fs os)
-
 none_left : (xs : List Data) (b : Bool) → cond b (Some []) None ≡ Some xs → (xs ≡ []) × (b ≡ true)
 none_left xs true h = (sym (same_Some [] xs h), refl)
 none_left xs false h = absurd (none-some xs h)
@@ -78,17 +73,17 @@ tuple_there k [] [] xs h = nothing_in xs 0 (sym (same_Some [] xs h))
 tuple_there k [] (o ∷ os) xs h = absurd (none-some xs h)
 tuple_there k (f ∷ fs) [] xs h = absurd (none-some xs h)
 tuple_there k (f ∷ fs) (Some d ∷ os) xs h =
-    let y = opened (λ ys. d ∷ ys) (tuple_items fs os) xs h in
+    let y = map_some (λ ys. d ∷ ys) (tuple_items fs os) xs h in
     ap (λ zs. slice_get zs (field_place k (f ∷ fs))) (sym y.2) ∙ item_at k f fs d os y.0 (same_text k f.name) (tuple_there k fs os y.0 y.1)
 tuple_there k (f ∷ fs) (None ∷ os) xs h =
     let n = none_left xs (are_absent (f ∷ fs) (None ∷ os)) h in
-    nothing_in xs (field_place k (f ∷ fs)) n.0 ∙ sym (absent_data k (f ∷ fs) (None ∷ os) n.1)
+    nothing_in xs (field_place k (f ∷ fs)) n.0 ∙ sym (none_there k (f ∷ fs) (None ∷ os) n.1)
 
 module _ (Holds : Data → Type 0) (fs : List Field) (ds : List (Option Data)) (t : Data) (k : List ℕ) (g : Field) (d x u : Option Data) (r : LastChange) (holds : Holds t) (named : field_named k fs ≡ Some g) where
   pub field_entry : (form : StructForm) (name : List ℕ) → S.Map ≡ form → name ≡ field_text g → struct_form form fs ds ≡ Some t → ClearStruct form fs
       → ((y : Data) → Holds y → at_key name (option_and_then (value_at name) (members_in y)) (written left_out g d) ≡ located r x u) → struct_last form k fs ds g (field_data k fs ds) d u ≡ located r x u
   field_entry S.Map name is called made clear given =
-      let y = opened (λ es. map_data (in_key_order es)) (field_entries fs ds) t made in
+      let y = map_some (λ es. map_data (in_key_order es)) (field_entries fs ds) t made in
       let w = written_is fs ds y.0 y.1 in
       let value : option_and_then (value_at name) (members_in (map_data (in_key_order y.0))) ≡ written left_out g (field_data k fs ds) =
       in_map name (in_key_order y.0) ∙ risen-at y.0 name ∙ (λ i. value_at (called i) (w.same i)) ∙ written-at left_out k fs ds g clear.apart named in
@@ -101,7 +96,7 @@ module _ (Holds : Data → Type 0) (fs : List Field) (ds : List (Option Data)) (
   pub field_item : (form : StructForm) (number : ℕ) → S.Tuple ≡ form → number ≡ field_place k fs → struct_form form fs ds ≡ Some t
       → ((xs : List Data) → Holds (T.list (T.items_of xs)) → (c : Option Data) → is_some (slice_get xs number) ≡ is_some c → at_item number c d ≡ located r x u) → struct_last form k fs ds g (field_data k fs ds) d u ≡ located r x u
   field_item S.Tuple number is place made given =
-      let y = opened (λ xs. T.list (T.items_of xs)) (tuple_items fs ds) t made in
+      let y = map_some (λ xs. T.list (T.items_of xs)) (tuple_items fs ds) t made in
       ap (λ n. at_item n (field_data k fs ds) d) (sym place)
       ∙ given y.0 (subst Holds (sym y.2) holds) (field_data k fs ds) (ap (λ n. is_some (slice_get y.0 n)) place ∙ ap is_some (tuple_there k fs ds y.0 y.1))
   field_item S.Map number is place made given = absurd cc
@@ -113,7 +108,7 @@ module _ (Holds : Data → Type 0) (fs : List Field) (ds : List (Option Data)) (
       → ((es : List (List ℕ × Data)) → field_entries fs ds ≡ Some es → Holds (listpairs es) → AreNamesApart fs
       → at_pair (written_before left_out k fs ds) (field_text g) (written left_out g (field_data k fs ds)) (written left_out g d) ≡ located r x u) → struct_last form k fs ds g (field_data k fs ds) d u ≡ located r x u
   field_pair S.ListPairs is made clear given =
-      let y = opened listpairs (field_entries fs ds) t made in
+      let y = map_some listpairs (field_entries fs ds) t made in
       given y.0 y.1 (subst Holds (sym y.2) holds) clear.apart
   field_pair S.Map is made clear given = absurd cc
   field_pair S.Tuple is made clear given = absurd cc

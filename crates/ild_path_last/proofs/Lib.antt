@@ -1,7 +1,7 @@
 mod Counting
 mod Comings
 mod Seeking
-mod Passing
+pub mod Passing
 mod Forming
 mod Naming
 mod Verbs

@@ -4,13 +4,14 @@ use Rattle.std.specs.Prelude.{is_some, option_and_then, option_map}
 use Rattle.std.proofs.lemmas.Option.{same_Some, none-some}
 use Rattle.ild_cbor.specs.declared.piece.Piece.{Piece}
 use Rattle.ild_splice_changes.specs.TreeChange.{nth, insert_item, remove_item, replace, one, Located}
+use Rattle.ild_data.proofs.Gets.{got_below}
+use Rattle.ild_data.proofs.Options.{chain_some, map_some}
 use Rattle.ild_data.specs.Data as T
 use Rattle.ild_data.specs.Data.{Data, items_list, items_of}
 use Rattle.ild_data.specs.Key.{same_text, value_at}
 use Rattle.ild_data.proofs.Lists.{items_list-items_of, items_of-items_list}
 use Rattle.ild_path_edits.specs.Table.{declared_slot, if_absent, new_index, refusal_to_delete, slot_left_out, slot_to_insert, slot_to_set, unless_there}
 use Rattle.ild_path_changes.proofs.Datas.{each}
-use Rattle.ild_path_changes.proofs.Lifting.{chained, opened}
 use Rattle.ild_path_changes.specs.LastLift.{at_place, delete_seen, insert_seen, named_last, set_seen, with_data}
 use Rattle.ild_path_changes.specs.Places.{field_named}
 use Rattle.ild_layer_piece.specs.Pieces.{StandsFor}
@@ -27,7 +28,7 @@ use Rattle.ild_typed.specs.Represented.{represented}
 use Rattle.ild_typed.specs.Segment.{index_of}
 use Rattle.ild_path_steps.proofs.Holding.{Held, of_any, of_elements, of_entries, of_fields, of_member, of_nothing}
 use Rattle.ild_path_steps.proofs.Leading.{each-long}
-use Rattle.ild_path_steps.proofs.Listing.{items_few, within_list}
+use Rattle.ild_path_steps.proofs.Listing.{items_few}
 use Rattle.ild_path_steps.specs.declared.steps.PartSteps.TheVariants as P
 use Rattle.ild_path_last.specs.Change.{PartBecomes, Tells, is_named, located}
 use Rattle.ild_path_last.specs.declared.change.LastChange.{LastChange}
@@ -112,7 +113,7 @@ record IsAt {X : Type 0} (s : List ℕ) (vs : List X) : Type 0 where
   less : i < length vs
 
 at_of : {X : Type 0} (s : List ℕ) (vs : List X) (v : X) → option_and_then (λ i. slice_get vs i) (index_of s) ≡ Some v → IsAt s vs
-at_of s vs v h = let z = chained (λ i. slice_get vs i) (index_of s) v h in record { i = z.0; index_is = z.1; less = within_list vs z.0 v z.2 }
+at_of s vs v h = let z = chain_some (λ i. slice_get vs i) (index_of s) v h in record { i = z.0; index_is = z.1; less = got_below vs z.0 v z.2 }
 
 not_refused : {X : Type 0} (o : Option X) → unless_there o ≡ None → (x : X) × (o ≡ Some x)
 not_refused None h = absurd (none-some _ (sym h))
@@ -126,7 +127,7 @@ module _ (rows : List Row) (p : Piece) (t : Data) (s : List ℕ) (stands : Stand
     set_item : {X : Type 0} (vs : List X) (slot : Slot) → Listed rows p vs → ((i : ℕ) → index_of s ≡ Some i → i < 2 ^ 64 → r ≡ C.Replace (P.Item i)) → option_map (λ v. slot) (option_and_then (λ i. slice_get vs i) (index_of s)) ≡ Some part
         → represented alone rows part w ≡ Some x → at_place (λ i. with_data (λ y. one (nth i ∷ []) (replace y)) (represented alone rows slot w)) (index_of s) ≡ located r (Some x) u
     set_item vs slot listed given there new =
-        let y = opened (λ v. slot) (option_and_then (λ i. slice_get vs i) (index_of s)) part there in
+        let y = map_some (λ v. slot) (option_and_then (λ i. slice_get vs i) (index_of s)) part there in
         let z = at_of s vs y.0 y.1 in
         let is : represented alone rows slot w ≡ Some x = ap (λ q. represented alone rows q w) y.2 ∙ new in
         let r_is = given z.i z.index_is (omega (arith, z.less, listed.few)) in
@@ -146,7 +147,7 @@ module _ (rows : List Row) (p : Piece) (t : Data) (s : List ℕ) (stands : Stand
     insert_place : {X : Type 0} (vs : List X) (slot : Slot) → Listed rows p vs → Comes → option_map (λ i. slot) (new_index (length vs) s) ≡ Some part → represented alone rows part w ≡ Some x
         → at_place (λ i. with_data (λ y. one [] (insert_item i y)) (represented alone rows slot w)) (new_index (length vs) s) ≡ located r (Some x) u
     insert_place vs slot listed given there new =
-        let y = opened (λ i. slot) (new_index (length vs) s) part there in
+        let y = map_some (λ i. slot) (new_index (length vs) s) part there in
         let is : represented alone rows slot w ≡ Some x = ap (λ q. represented alone rows q w) y.2 ∙ new in
         let r_is = given listed.ds y.0 listed.stands (ap (λ n. new_index n s) listed.long ∙ y.1) in
         (λ j. at_place (λ i. with_data (λ y. one [] (insert_item i y)) (is j)) (y.1 j)) ∙ ap (λ c. located c (Some x) u) (sym r_is)

@@ -6,6 +6,7 @@ use Rattle.std.specs.Prelude.{cond, is_some, option_and_then}
 use Rattle.std.specs.List.{AllByRecursion}
 use Rattle.std.proofs.lemmas.Option.{none-some, same_Some}
 use Rattle.ild_bulk.specs.Build.{any_long, is_long}
+use Rattle.ild_data.proofs.AllOf.{all_split}
 use Rattle.ild_data.specs.ByteOrder.{in_byte_order}
 use Rattle.ild_data.specs.Data.{Data}
 use Rattle.ild_data.specs.Key.{same_text, value_at}
@@ -35,7 +36,6 @@ use Rattle.ild_schema.specs.declared.number.Slot.{Slot}
 use Rattle.ild_schema.specs.declared.number.TypeNo.{TypeNo}
 use Rattle.ild_schema.specs.declared.row.Row.{Row}
 use Rattle.ild_typed.proofs.Basics.{map_from}
-use Rattle.ild_typed.proofs.TreeNodes.{all_split}
 use Rattle.ild_typed.specs.At.{InSlot, at, seen}
 use Rattle.ild_typed.specs.Blocks.{hamt_nodes, nodes, nodes_of_pairs}
 use Rattle.ild_typed.specs.Hamt.{root_map, whole}

@@ -3,6 +3,7 @@ use Rattle.std.proofs.Common.{◌≡◌, ℕ, zero, suc, ◌+◌, ◌-◌, ◌^�
 use Rattle.std.proofs.Math.Nat.{sub-zero}
 use Rattle.std.specs.List.{AllByRecursion, range_with_len}
 use Rattle.std.proofs.lemmas.Option.{none-some, same_Some}
+use Rattle.ild_data.proofs.AllOf.{all_split}
 use Rattle.ild_data.specs.ByteOrder.{in_byte_order, no_key_twice}
 use Rattle.ild_data.specs.Data as T
 use Rattle.ild_data.specs.Data.{Data, items_list, items_of}
@@ -16,7 +17,6 @@ use Rattle.ild_hamt_trie.proofs.Slots.{some_cons}
 use Rattle.ild_path_sizes.proofs.Sizes.{in_list}
 use Rattle.ild_path_reroot.proofs.Among.{root_longer}
 use Rattle.ild_typed.proofs.Basics.{map_from}
-use Rattle.ild_typed.proofs.TreeNodes.{all_split}
 use Rattle.ild_typed.specs.Hamt.{root_map}
 use Rattle.ild_typed_places.proofs.Listing.{in_range}
 use Rattle.ild_typed_places.proofs.Ordered.{from_order, from_parts}

@@ -5,7 +5,8 @@ use Rattle.std.specs.List.{AllByRecursion}
 use Rattle.std.specs.Option.{option_map_or}
 use Rattle.std.proofs.lemmas.List.Elements.{All-contains_itself, recursion_from_All}
 use Rattle.std.proofs.lemmas.Option.{same_Some, none-some}
-use Rattle.ild_typed.specs.Among.{AreAmong}
+use Rattle.ild_data.proofs.AllOf.{all_split, all_append}
+use Rattle.ild_data.specs.Among.{AreAmong}
 use Rattle.ild_data.specs.Key.{put, without}
 use Rattle.ild_schema.specs.declared.def.MapForm.TheVariants as MF
 use Rattle.ild_schema.specs.declared.def.TypeDef.{TypeDef}
@@ -24,8 +25,6 @@ use Rattle.ild_typed.specs.OfType.{OfType, TestsKeys}
 use Rattle.ild_typed.specs.Represented.{represented_pairs}
 use Rattle.ild_typed.specs.Schema.{IsSchema}
 use Rattle.ild_typed.specs.Segment.{part, set_part}
-use Rattle.ild_typed.proofs.TreeNodes.{all_split}
-use Rattle.ild_typed.proofs.Treed.{all_append}
 use Rattle.ild_value_meaning.proofs.Told.{told}
 use Rattle.ild_value_meaning.proofs.TypedByParts.{to_parts}
 use Rattle.ild_path_edits.specs.Edit.{Edit, set_at, ins_at, del_at, HasTextPath, path_of, new_slot, placed, set_in, ins_in, unless_kept, del_in, change}

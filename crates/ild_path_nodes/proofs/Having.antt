@@ -4,6 +4,7 @@ use Rattle.std.specs.Prelude.{IfSome, slice_set, remove, option_map, option_and_
 use Rattle.std.specs.List.{AllByRecursion}
 use Rattle.std.specs.Option.{option_map_or}
 use Rattle.std.proofs.lemmas.Option.{same_Some, none-some}
+use Rattle.ild_data.proofs.AllOf.{all_split, all_append}
 use Rattle.ild_data.specs.Data as T
 use Rattle.ild_data.specs.Data.{Data}
 use Rattle.ild_data.specs.Key.{same_text, value_at}
@@ -26,8 +27,6 @@ use Rattle.ild_typed.specs.Holder.{Holder, fields, member, entries, elements, an
 use Rattle.ild_typed.specs.Represented.{represented_pairs}
 use Rattle.ild_typed.specs.Segment.{part, set_part, field_at, set_field, held_as, member_named, index_of}
 use Rattle.ild_typed.specs.Slots.{element_of, fields_of, member_of, slot_of}
-use Rattle.ild_typed.proofs.TreeNodes.{all_split}
-use Rattle.ild_typed.proofs.Treed.{all_append}
 use Rattle.ild_value_meaning.proofs.ByParts.{ByParts}
 use Rattle.ild_value_meaning.proofs.Members.{member-named}
 use Rattle.ild_value_meaning.proofs.Told.{AreToldApart}

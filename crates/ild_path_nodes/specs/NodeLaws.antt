@@ -1,7 +1,7 @@
 -- The laws of the nodes of HAMTs in values: which there are in a part, and in what an edit makes.
 use Rattle.std.specs.Prelude.{◌≡◌, ℕ, Bool, true, List, [], ◌++◌, Option, Some, Ok}
 use Rattle.std.specs.Option.{option_map_or}
-use Rattle.ild_typed.specs.Among.{AreAmong}
+use Rattle.ild_data.specs.Among.{AreAmong}
 use Rattle.ild_data.specs.Key.{put, without}
 use Rattle.ild_data.specs.declared.hamt_shape.HamtShape.{HamtShape}
 use Rattle.ild_schema.specs.declared.def.MapForm.TheVariants as MF

@@ -7,7 +7,8 @@ use Rattle.std.specs.List.{AllByRecursion}
 use Rattle.std.proofs.lemmas.Bool.{ltb-true}
 use Rattle.std.proofs.lemmas.Option.{same_Some}
 use Rattle.ild_edges.specs.Gained.{AreIdsGiven}
-use Rattle.ild_typed.specs.Among.{AreAmong}
+use Rattle.ild_hamt.proofs.Going.{told as told_at}
+use Rattle.ild_data.specs.Among.{AreAmong}
 use Rattle.ild_data.specs.ByteOrder.{bytewise}
 use Rattle.ild_data.specs.Data.{Data}
 use Rattle.ild_data.specs.Limits.{longest_block}
@@ -103,10 +104,7 @@ told_next None q was is t = absurd cc
 told_next (Some a) None was is t = absurd t
 told_next (Some a) (Some b) was is t = (b, refl, subst (λ y. Keeps y b) (same_Some a was is) t)
 
-pub told_at : {A : Type 0} (o : Option A) (a : A) (P : A → Type 0) → o ≡ Some a → IfTold o P → P a
-told_at o a P is t = subst (λ q. IfTold q P) is t
-
-told_here : {A : Type 0} (o : Option A) (a : A) (P : A → Type 0) → o ≡ Some a → P a → IfTold o P
+pub told_here : {A : Type 0} (o : Option A) (a : A) (P : A → Type 0) → o ≡ Some a → P a → IfTold o P
 told_here o a P is p = subst (λ q. IfTold q P) (sym is) p
 
 -- ids that are given

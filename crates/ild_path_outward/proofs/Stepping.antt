@@ -6,6 +6,7 @@ use Rattle.std.proofs.Props.{props}
 use Rattle.ild_cbor.specs.Block.{IsBlockOf}
 use Rattle.ild_cbor.specs.Nodes.{IsRoot, HasData}
 use Rattle.ild_cbor.specs.declared.node.Node.{Node}
+use Rattle.ild_path_edit.proofs.Making.{item_stands}
 use Rattle.ild_data.specs.Data.{Data, depth}
 use Rattle.ild_data.specs.Spell.{spell}
 use Rattle.ild_data.specs.Key.{value_at}
@@ -41,7 +42,6 @@ use Rattle.ild_node.specs.Rows.{NestsIn}
 use Rattle.ild_path_entry.specs.Entry.{IsEntry, data_in, room_in, slot_in, table_in}
 use Rattle.ild_path_entry.specs.declared.entry.Entry.{Entry}
 use Rattle.ild_path_hop.specs.Levels.{IsLevel, IsRootView, IsSetThere, LeadsToHamt, SetsEntry, with_set}
-use Rattle.ild_path_hop.proofs.Leveling.{item_stands}
 pub use Rattle.ild_path_hop.proofs.Leveling.{slot_of_path}
 pub use Rattle.ild_path_hops.proofs.Linking.{last_is}
 use Rattle.ild_path_hops.specs.Links.{IsRootAt, RootBehind}

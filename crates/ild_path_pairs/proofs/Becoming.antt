@@ -3,6 +3,8 @@ use Rattle.std.proofs.Common.{◌≡◌, ℕ, List, [], ◌∷◌, ◌++◌, Boo
 use Rattle.std.specs.Prelude.{option_and_then, option_map, Result}
 use Rattle.std.specs.declared.alloc.AllocError.{AllocError}
 use Rattle.std.proofs.lemmas.Option.{same_Some, none-some}
+use Rattle.ild_schema.proofs.Parts.{optionals_list-optionals_of, pairs_list-pairs_of}
+use Rattle.ild_data.proofs.Options.{chain_some, map_some}
 use Rattle.ild_data.specs.Data as T
 use Rattle.ild_data.specs.Data.{Data}
 use Rattle.ild_data.specs.Key.{same_text}
@@ -10,7 +12,7 @@ use Rattle.ild_path_changes.proofs.Datas.{data_of, each_pair}
 use Rattle.ild_path_changes.proofs.Each.{each_pair-last}
 use Rattle.ild_path_changes.proofs.Last.{each_field-gone, each_pair-without}
 use Rattle.ild_path_changes.proofs.LastLifting.{declared_field}
-use Rattle.ild_path_changes.proofs.Lifting.{chained, each_field-set, opened}
+use Rattle.ild_path_changes.proofs.Lifting.{each_field-set}
 use Rattle.ild_path_changes.proofs.Represented.{in_holders}
 use Rattle.ild_path_changes.specs.Places.{each_field, field_named, field_place}
 use Rattle.ild_path_edits.specs.Table.{field_kept, if_present}
@@ -29,7 +31,6 @@ use Rattle.ild_schema.specs.declared.def.TypeDef.TheVariants as D
 use Rattle.ild_schema.specs.declared.number.Slot.{Slot}
 use Rattle.ild_schema.specs.declared.number.TypeNo.{TypeNo}
 use Rattle.ild_schema.specs.declared.row.Row.{Row}
-use Rattle.ild_typed.proofs.Lists.{optionals_list-optionals_of, pairs_list-pairs_of}
 use Rattle.ild_typed.specs.Composed.{map_form, struct_form}
 use Rattle.ild_typed.specs.Fields.{entries_of, field_entries}
 use Rattle.ild_typed.specs.Hamt.{alone}
@@ -154,7 +155,7 @@ record Behind (f : Field) (fs : List Field) (o : Option Data) (ds : List (Option
   may : o ≡ None → f.optional ≡ true
 
 behind : (f : Field) (fs : List Field) (o : Option Data) (ds : List (Option Data)) (es : List (List ℕ × Data)) → field_entries (f ∷ fs) (o ∷ ds) ≡ Some es → Behind f fs o ds
-behind f fs (Some x) ds es e = let y = opened (λ zs. entries_of f x ++ zs) (field_entries fs ds) es e in record { entries = y.0; made = y.1; may = λ q. never_none x q }
+behind f fs (Some x) ds es e = let y = map_some (λ zs. entries_of f x ++ zs) (field_entries fs ds) es e in record { entries = y.0; made = y.1; may = λ q. never_none x q }
 behind f fs None ds es e = by f.optional refl e where
   by : (b : Bool) → f.optional ≡ b → cond b (field_entries fs ds) None ≡ Some es → Behind f fs None ds
   by true q k = record { entries = es; made = k; may = λ z. q }
@@ -198,6 +199,6 @@ struct_form_told fs gs number inner entry i e text new r all i_is e_is gs_is for
       so : option_and_then (stringpairs inner entry) (field_entries fs ds) ≡ Some (T.text text) → AreClearFields fs × IsGiven inner → field_named k fs ≡ Some g → number ≡ field_place k fs → (new ≡ None → g.optional ≡ true)
           → Tells (option_and_then (stringpairs inner entry) (field_entries fs (set_field k d fs ds))) r
       so made clear named place gone =
-          let y = chained (stringpairs inner entry) (field_entries fs ds) (T.text text) made in
+          let y = chain_some (stringpairs inner entry) (field_entries fs ds) (T.text text) made in
           let n = entries_set k fs ds y.0 g d y.1 named (λ e. gone (text_gone new e)) in
           subst (λ o. Tells (option_and_then (stringpairs inner entry) o) r) (sym n.1) (all_so ds y.0 n.0 k g y.1 y.2 clear.0.apart named place n.1)

@@ -3,13 +3,14 @@ use Rattle.std.proofs.Common.{◌≡◌, ◌+◌, ℕ, zero, suc, List, [], ◌�
 use Rattle.std.specs.Prelude.{is_some, option_and_then, option_map, Result}
 use Rattle.std.specs.declared.alloc.AllocError.{AllocError}
 use Rattle.std.proofs.lemmas.Option.{same_Some, none-some}
+use Rattle.ild_data.proofs.Options.{map_some}
 use Rattle.ild_data.specs.Data as T
 use Rattle.ild_data.specs.Data.{Data}
 use Rattle.ild_data.specs.Key.{same_text, value_at}
 use Rattle.ild_path_changes.proofs.Datas.{each_pair, written_entries}
 use Rattle.ild_path_changes.proofs.Each.{each_pair-at, joined}
 use Rattle.ild_path_changes.proofs.Fields.{around, written-at}
-use Rattle.ild_path_changes.proofs.Lifting.{opened, place_same, written_is}
+use Rattle.ild_path_changes.proofs.Lifting.{place_same, written_is}
 use Rattle.ild_path_changes.proofs.Others.{put_lasts}
 use Rattle.ild_path_changes.proofs.Represented.{each_pair-some}
 use Rattle.ild_path_changes.specs.Pairs.{pair_if}
@@ -51,7 +52,7 @@ is_text : (e : List ℕ × Data) (es : List (List ℕ × Data)) (p : List ℕ ×
 is_text e es p ps h =
     let j = joined (option_map (λ s. (e.0, s)) (text_in e.1)) (text_pairs es) (p ∷ ps) h in
     let c = cons_same j.first p j.rest ps j.whole in
-    let y = opened (λ s. (e.0, s)) (text_in e.1) j.first j.is_first in
+    let y = map_some (λ s. (e.0, s)) (text_in e.1) j.first j.is_first in
     record { key = ap (λ (z : List ℕ × List ℕ). z.0) (y.2 ∙ c.0); first = j.is_first ∙ ap Some c.0; rest = j.is_rest ∙ ap Some c.1 }
 
 none_text : {A : Type 0} (p : List ℕ × List ℕ) (ps : List (List ℕ × List ℕ)) → ◌≡◌ {A = Option (List (List ℕ × List ℕ))} (Some []) (Some (p ∷ ps)) → A

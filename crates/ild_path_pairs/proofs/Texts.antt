@@ -4,10 +4,11 @@ use Rattle.std.specs.Prelude.{insert, is_some, option_and_then, option_map, remo
 use Rattle.std.proofs.Math.Seq.{set-append_seam}
 use Rattle.std.proofs.lemmas.List.Edits.{insert-append_right, remove-append_right}
 use Rattle.std.proofs.lemmas.Option.{same_Some}
+use Rattle.ild_typed.proofs.Unions.{text_same_data}
+use Rattle.ild_data.proofs.Options.{chain_some, map_some}
 use Rattle.ild_data.specs.Data as T
 use Rattle.ild_data.specs.Data.{Data}
 use Rattle.ild_path_changes.proofs.Each.{joined}
-use Rattle.ild_path_changes.proofs.Lifting.{chained, opened}
 use Rattle.ild_path_changes.specs.Pairs.{pair_if}
 use Rattle.ild_path_pairs.specs.Pairs.{Tells, changed_by, text_pair_if}
 use Rattle.ild_path_text.specs.Changed.{value_set}
@@ -118,7 +119,7 @@ split key front behind None ps h =
 split key front behind (Some d) ps h =
     let r = halves front ((key, d) ∷ behind) ps h in
     let j = joined (option_map (λ s. (key, s)) (text_in d)) (text_pairs behind) r.last r.last_is in
-    let y = opened (λ s. (key, s)) (text_in d) j.first j.is_first in
+    let y = map_some (λ s. (key, s)) (text_in d) j.first j.is_first in
     record {
       first = r.first;
       last = j.rest;
@@ -141,12 +142,6 @@ module _ (inner entry key : List ℕ) (front behind : List (List ℕ × Data)) (
       ap (λ o. option_map T.text (option_and_then (join_pairs inner entry) o))
       (whole_of front (pair_if key (option_map T.text new) ++ behind) s.first s.first_is ∙ ap (option_map (λ ys. s.first ++ ys)) (between new))
 
-text_same : (s t : List ℕ) → T.text s ≡ T.text t → s ≡ t
-text_same s t e = ap text_or e where
-  text_or : Data → List ℕ
-  text_or (T.text x) = x
-  text_or d = s
-
 -- the pairs of a text
 pub record Paired (inner entry : List ℕ) (es : List (List ℕ × Data)) (text : List ℕ) : Type 0 where
   pub pairs : List (List ℕ × List ℕ)
@@ -155,9 +150,9 @@ pub record Paired (inner entry : List ℕ) (es : List (List ℕ × Data)) (text 
 
 pub paired : (inner entry : List ℕ) (es : List (List ℕ × Data)) (text : List ℕ) → stringpairs inner entry es ≡ Some (T.text text) → Paired inner entry es text
 paired inner entry es text h =
-    let y = opened T.text (option_and_then (join_pairs inner entry) (text_pairs es)) (T.text text) h in
-    let z = chained (join_pairs inner entry) (text_pairs es) y.0 y.1 in
-    record { pairs = z.0; pairs_are = z.1; text_is = z.2 ∙ ap Some (text_same y.0 text y.2) }
+    let y = map_some T.text (option_and_then (join_pairs inner entry) (text_pairs es)) (T.text text) h in
+    let z = chain_some (join_pairs inner entry) (text_pairs es) y.0 y.1 in
+    record { pairs = z.0; pairs_are = z.1; text_is = z.2 ∙ ap Some (text_same_data y.0 text y.2) }
 
 -- which are the only ones of that text
 pub one_text : OnePairs → PairsArePairs → (inner entry text : List ℕ) → 0 < length inner → 0 < length entry → (es : List (List ℕ × Data)) → stringpairs inner entry es ≡ Some (T.text text) → (ps : List (List ℕ × List ℕ)) → IsPairs inner entry ps text → text_pairs es ≡ Some ps

@@ -1,6 +1,7 @@
 -- The pairs of a struct's fields, passed over field by field.
-use Rattle.std.proofs.Common.{◌≡◌, ◌<◌, ◌≤◌, ◌+◌, ◌-◌, ℕ, zero, suc, List, [], ◌∷◌, Bool, true, false, cond, drop, get_or, length, Some, None, refl, sym, ◌∙◌, ap, arith}
+use Rattle.std.proofs.Common.{◌≡◌, ◌<◌, ◌≤◌, ◌+◌, ◌-◌, ℕ, suc, List, [], ◌∷◌, Bool, true, false, cond, drop, get_or, length, Some, None, refl, sym, ◌∙◌, ap, arith}
 use Rattle.std.proofs.lemmas.Option.{same_Some, none-some}
+use Rattle.ild_path_last.proofs.Passing.{drop_first}
 use Rattle.ild_data.specs.Key.{same_text}
 use Rattle.ild_path_pairs.specs.inside.Seats.{behind_first, count_behind, is_first, left_behind, passed}
 use Rattle.ild_schema.specs.Marks.{field_text}
@@ -43,11 +44,6 @@ none_counted (f ∷ fs) ps = refl
 none_passed : (fs : List Field) (ps : List (List ℕ × List ℕ)) → left_behind fs 0 ps ≡ ps
 none_passed [] ps = refl
 none_passed (f ∷ fs) ps = refl
-
-drop_first : {A : Type 0} (xs : List A) (i : ℕ) (x : A) → i < length xs → drop i xs ≡ get_or xs i x ∷ drop (suc i) xs
-drop_first [] i x h = absurd (omega (arith, h))
-drop_first (y ∷ ys) zero x h = refl
-drop_first (y ∷ ys) (suc i) x h = drop_first ys i x (omega (arith, h))
 
 drop_none : {A : Type 0} (xs : List A) → drop 0 xs ≡ xs
 drop_none [] = refl

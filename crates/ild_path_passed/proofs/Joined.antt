@@ -2,16 +2,15 @@
 use Rattle.std.proofs.Common.{◌≡◌, ℕ, List, [], ◌∷◌, Option, Some, None, refl, sym, subst}
 use Rattle.std.specs.Prelude.{Contains}
 use Rattle.std.specs.List.{AllByRecursion}
+use Rattle.ild_data.proofs.AllOf.{all_append, all_split, all_contained}
 use Rattle.ild_data.specs.Data.{Data}
 use Rattle.ild_data.specs.Spell.{spell}
 use Rattle.ild_typed.proofs.Rooms.{all_more}
-use Rattle.ild_typed.proofs.Treed.{all_append}
-use Rattle.ild_typed.proofs.TreeNodes.{all_split}
 use Rattle.ild_typed_places.specs.Parts.{LieIn}
 use Rattle.ild_typed_places.specs.Places.{Place, Places, joined, places_over, each_place, node_place, down_from}
 use Rattle.ild_typed_places.proofs.Joining.{All, down_each}
 use Rattle.ild_typed_places.proofs.Linked.{each_joined}
-use Rattle.ild_typed_places.proofs.Listing.{all_contained, all_one}
+use Rattle.ild_typed_places.proofs.Listing.{all_one}
 
 module _ (Q : Place → Type 0) where
   abbrev pub Each : Places → Type 0

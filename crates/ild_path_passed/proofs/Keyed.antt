@@ -7,6 +7,7 @@ use Rattle.std.specs.Cmp.Lexicographic.{same_text as text_same}
 use Rattle.std.specs.declared.cmp.Ordering.{Ordering}
 use Rattle.std.specs.declared.cmp.Ordering.TheVariants.{Less, Equal, Greater}
 use Rattle.std.proofs.lemmas.Option.{same_Some}
+use Rattle.ild_data.proofs.AllOf.{all_filter}
 use Rattle.ild_data.specs.Data.{Data}
 use Rattle.ild_data.specs.Key.{key_cmp, same_text, value_at, put, without}
 use Rattle.ild_data.proofs.Rising.{key_exact}
@@ -18,7 +19,6 @@ use Rattle.ild_typed.specs.Hamt.{whole}
 use Rattle.ild_typed.specs.Represented.{represented, represented_pairs}
 use Rattle.ild_typed.proofs.Basics.{map_from}
 use Rattle.ild_typed.proofs.Entries.{both_from}
-use Rattle.ild_typed.proofs.TreeNodes.{part_in}
 use Rattle.ild_typed_places.specs.Places.{Place, Places, joined, places_over, at_key, places_in, places_in_pairs}
 use Rattle.ild_path_passed.proofs.Joined.{Each, over_each}
 
@@ -37,7 +37,7 @@ key_more q t ts us same = by (same_text q t.0) where
   by false = same
 
 pub at_keys : (Q : Place → Type 0) (ts : List (List ℕ × Places)) → AllByRecursion (λ t. Each Q t.1) ts → (q : List ℕ) → Each Q (at_key ts q)
-at_keys Q ts all q = over_each Q (λ t. t.1) (keyed_by q ts) (part_in (λ t. Each Q t.1) (λ t. same_text q t.0) ts all)
+at_keys Q ts all q = over_each Q (λ t. t.1) (keyed_by q ts) (all_filter (λ t. Each Q t.1) (λ t. same_text q t.0) ts all)
 
 module _ (h : List ℕ → List ℕ) (rows : List Row) (elem : Slot) where
   -- ---- what the data have at a key

@@ -1,9 +1,10 @@
 -- The places of a HAMT of which the entry of one key is another, or has come or gone.
-use Rattle.std.proofs.Common.{◌≡◌, ◌≢◌, ℕ, zero, suc, cond, List, [], ◌∷◌, slice_get, Option, Some, None, option_map, refl, ap, sym, subst, ◌∙◌}
+use Rattle.std.proofs.Common.{◌≡◌, ◌≢◌, ℕ, cond, List, [], Option, Some, None, option_map, refl, ap, sym, subst, ◌∙◌}
 use Rattle.std.specs.Prelude.{is_some, option_and_then}
 use Rattle.std.specs.List.{AllByRecursion}
 use Rattle.std.specs.Option.{option_map_or}
 use Rattle.std.proofs.lemmas.Option.{same_Some}
+use Rattle.ild_data.proofs.AllOf.{all_indexed}
 use Rattle.ild_data.specs.ByteOrder.{in_byte_order}
 use Rattle.ild_data.specs.Data.{Data}
 use Rattle.ild_data.specs.Key.{value_at, put, without}
@@ -37,11 +38,6 @@ use Rattle.ild_path_way.specs.Way.{nodes_on, nodes_for}
 use Rattle.ild_path_passed.proofs.Joined.{Each, over_each, lying}
 use Rattle.ild_path_passed.proofs.Keyed.{at_keys, data_of, data_at, keyed, keyed_each, other_put, other_without}
 use Rattle.ild_path_passed.proofs.Trieing.{passes}
-
--- each element by its index
-pub all_indexed : {X : Type 0} (P : X → Type 0) (xs : List X) → ((i : ℕ) (x : X) → slice_get xs i ≡ Some x → P x) → AllByRecursion P xs
-all_indexed P [] f = tt
-all_indexed P (x ∷ xs) f = (f zero x refl, all_indexed P xs (λ i y e. f (suc i) y e))
 
 module _ (Q : Place → Type 0) (Given : List ℕ → Type 0) (gives : (b : List ℕ) (ps : Places) → Given b → Q (b, ps)) (h : List ℕ → List ℕ) (rows : List Row) (s elem : Slot) where
   abbrev pub EntryPasses : List ℕ × Value → Type 0

@@ -4,6 +4,7 @@ use Rattle.std.specs.Prelude.{IsUtf8, Contains, Result, Ok, option_and_then}
 use Rattle.std.specs.List.{AllByRecursion}
 use Rattle.std.specs.Option.{option_map_or}
 use Rattle.std.proofs.lemmas.Option.{same_Some, none-some}
+use Rattle.ild_data.proofs.AllOf.{all_split}
 use Rattle.ild_data.specs.Data.{Data}
 use Rattle.ild_data.specs.Spell.{id_of}
 use Rattle.ild_schema.proofs.Legibly.{legible}
@@ -21,7 +22,6 @@ use Rattle.ild_typed.specs.Represented.{represented}
 use Rattle.ild_typed.specs.Schema.{IsSchema}
 use Rattle.ild_typed.specs.Segment.{part, set_part}
 use Rattle.ild_typed.proofs.Rooms.{all_more}
-use Rattle.ild_typed.proofs.TreeNodes.{all_split}
 use Rattle.ild_typed_places.specs.Places.{Place, Places, each_place, places_in}
 use Rattle.ild_typed_places.proofs.Listing.{all_one}
 use Rattle.ild_typed_places.proofs.Values.{alike}

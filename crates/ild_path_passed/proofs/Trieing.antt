@@ -2,6 +2,7 @@
 use Rattle.std.proofs.Common.{◌≡◌, ◌≢◌, ⊎_elim, ℕ, zero, suc, ◌+◌, ◌^◌, ◌<◌, ◌≤◌, ◌==◌, nat_le, Bool, true, false, cond, List, [], ◌∷◌, ◌++◌, length, refl, sym, ap, ◌∙◌, subst, arith}
 use Rattle.std.specs.List.{AllByRecursion, range_with_len}
 use Rattle.std.proofs.lemmas.Bool.{lt-leb, le-leb, cases_eq, cases_lt, eqb-true}
+use Rattle.ild_data.proofs.AllOf.{all_split, all_filter}
 use Rattle.ild_data.specs.Data.{Data}
 use Rattle.ild_data.specs.Spell.{spell}
 use Rattle.ild_data.specs.declared.hamt_shape.HamtShape.{HamtShape}
@@ -11,7 +12,6 @@ use Rattle.ild_hamt_trie.specs.Way.{way}
 use Rattle.ild_hamt_trie.proofs.Fold.{length-part}
 use Rattle.ild_hamt_trie.proofs.Way.{way_is}
 use Rattle.ild_typed.proofs.Rooms.{all_more}
-use Rattle.ild_typed.proofs.TreeNodes.{all_split, part_in}
 use Rattle.ild_typed_places.specs.Places.{Place, Places, joined, places_over, node_place, bucket_or_node, places_beneath}
 use Rattle.ild_typed_places.proofs.Listing.{all_from}
 use Rattle.ild_hamt_climb.specs.Rewriting.{DiffersAt}
@@ -80,7 +80,7 @@ module _ (Q : Place → Type 0) (h : List ℕ → List ℕ) (p : HamtShape) wher
         over_alike (λ i. Under f left depth (Part depth es i)) (λ i. Under g left depth (Part depth es i)) (range_with_len 0 (2 ^ p.width))
         (all_from (λ i. Under f left depth (Part depth es i) ≡ Under g left depth (Part depth es i))
         (λ i.
-        let mine : Alike (Part depth es i) = part_in (λ e. f e.0 ≡ g e.0) (λ e. at_depth h p depth e.0 == i) es same in
+        let mine : Alike (Part depth es i) = all_filter (λ e. f e.0 ≡ g e.0) (λ e. at_depth h p depth e.0 == i) es same in
         slot_alike left depth (Part depth es i) (nat_le (length (Part depth es i)) p.bucket) mine (beneath_alike left (depth + 1) (Part depth es i) mine)) (range_with_len 0 (2 ^ p.width)))
 
   -- ---- old and new entries that differ at a key, where the nodes on its way are given

@@ -3,13 +3,13 @@ use Rattle.std.proofs.Common.{◌⊎◌, inl, inr, ⊎_elim, ℕ, List, [], ◌+
 use Rattle.std.specs.Prelude.{Contains}
 use Rattle.std.specs.List.{AllByRecursion}
 use Rattle.std.proofs.lemmas.List.Elements.{Contains-append_left, Contains-append_right}
+use Rattle.ild_data.proofs.AllOf.{all_append, contains_more}
 use Rattle.ild_data.specs.Spell.{spell, id_of}
 use Rattle.ild_schema.specs.Slots.{plainly}
 use Rattle.ild_typed.proofs.Rooms.{all_more}
-use Rattle.ild_typed.proofs.Treed.{all_append}
 use Rattle.ild_typed_places.specs.Places.{Place, Places, nowhere, place, joined, each_place, leaves, places_in}
 use Rattle.ild_typed_places.proofs.Linked.{each_joined}
-use Rattle.ild_typed_places.proofs.Listing.{all_one, contains_more}
+use Rattle.ild_typed_places.proofs.Listing.{all_one}
 use Rattle.ild_path_passed.specs.Laws.{ValuesPass}
 use Rattle.ild_path_passed.proofs.Joined.{both_each}
 

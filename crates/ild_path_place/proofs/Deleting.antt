@@ -1,6 +1,7 @@
 -- What isn't there can't be deleted.
 use Rattle.std.proofs.Common.{◌≡◌, ℕ, List, [], ◌∷◌, Bool, true, false, cond, Option, Some, None, option_map, refl, ap, sym, ◌∙◌}
 use Rattle.std.proofs.lemmas.Option.{none-some}
+use Rattle.ild_data.proofs.Options.{map_none}
 use Rattle.ild_data.specs.Key.{same_text, value_at}
 use Rattle.ild_path_edits.specs.Table.{field_kept, if_present, never, refusal_to_delete, unless_there}
 use Rattle.ild_schema.specs.declared.def.Field.{Field}
@@ -9,10 +10,6 @@ use Rattle.ild_script.specs.declared.reply.No.TheVariants as N
 use Rattle.ild_typed.specs.At.{InSlot}
 use Rattle.ild_typed.specs.Holder.{Holder, any_elements, any_entries, elements, entries, fields, member, nothing}
 use Rattle.ild_typed.specs.Segment.{field_at, part}
-
-none_map : {A B : Type 0} (f : A → B) (o : Option A) → option_map f o ≡ None → o ≡ None
-none_map f None e = refl
-none_map f (Some a) e = absurd (none-some (f a) (sym e))
 
 no_field : (s : List ℕ) (fs : List Field) (os : List (Option Value)) → field_at s fs os ≡ None → field_kept s fs os ≡ Some N.Path
 no_field s [] os e = refl
@@ -27,10 +24,10 @@ no_field s (f ∷ fs) (o ∷ os) e = by (same_text s f.name) o e (no_field s fs 
 pub no_part : (k : Holder) (s : List ℕ) → part k s ≡ None → refusal_to_delete k s ≡ Some N.Path
 no_part (fields fs os) s e = no_field s fs os e
 no_part (member ms n v) s e = ap never e
-no_part (entries key slot paired ps) s e = ap unless_there (none_map (λ v. (slot, v)) (value_at s ps) e)
-no_part (elements slot vs) s e = ap unless_there (none_map _ _ e)
-no_part (any_entries ms) s e = ap unless_there (none_map _ _ e)
-no_part (any_elements ds) s e = ap unless_there (none_map _ _ e)
+no_part (entries key slot paired ps) s e = ap unless_there (map_none (λ v. (slot, v)) (value_at s ps) e)
+no_part (elements slot vs) s e = ap unless_there (map_none _ _ e)
+no_part (any_entries ms) s e = ap unless_there (map_none _ _ e)
+no_part (any_elements ds) s e = ap unless_there (map_none _ _ e)
 no_part (nothing v) s e = refl
 
 pub gone : (o : Option InSlot) (s : List ℕ) (k : Holder) → part k s ≡ o → option_map (λ (r : InSlot). r.0) o ≡ None → refusal_to_delete k s ≡ None → ⊥

@@ -4,6 +4,7 @@ use Rattle.std.specs.Prelude.{option_and_then}
 use Rattle.std.specs.Option.{option_map_or}
 use Rattle.std.proofs.lemmas.List.{length-map}
 use Rattle.std.proofs.lemmas.Option.{none-some, same_Some}
+use Rattle.std.proofs.lemmas.Bool.{or_parts}
 use Rattle.ild_data.specs.Data.{Data}
 use Rattle.ild_path_judged.specs.Place.{last_in, last_of}
 use Rattle.ild_path_place.proofs.Lasting.{Ends, ends}
@@ -28,7 +29,6 @@ use Rattle.ild_schema.specs.declared.def.TypeDef.{TypeDef}
 use Rattle.ild_schema.specs.declared.def.TypeDef.TheVariants as D
 use Rattle.ild_schema.specs.declared.number.Slot.{Slot}
 use Rattle.ild_schema.specs.declared.row.Row.{Row}
-use Rattle.ild_typed.proofs.Cleans.{or_false}
 use Rattle.ild_typed.specs.At.{InSlot, at, seen}
 use Rattle.ild_typed.specs.EachLayer.{some_field}
 use Rattle.ild_typed.specs.Hamt.{whole}
@@ -109,7 +109,7 @@ module _ (h : List ℕ → List ℕ) (rows : List Row) where
   -- a value that has no hole in any layer has none in its first
   none_at : (slot : Slot) (st : StructDef) (v : Value) → form_of rows slot ≡ Some (D.Struct st) → has_hole rows slot v ≡ false → is_hole (Some (D.Struct st)) v ≡ false
   none_at slot st (V.struct os) form e =
-      ap (λ d. is_hole d (V.struct os)) (sym form) ∙ (or_false (is_hole (form_of rows slot) (V.struct os)) (some_field is_hole rows (fields_of (form_of rows slot)) os) e).0
+      ap (λ d. is_hole d (V.struct os)) (sym form) ∙ (or_parts (is_hole (form_of rows slot) (V.struct os)) (some_field is_hole rows (fields_of (form_of rows slot)) os) e).0
   none_at slot st v form e = refl
 
   front_by : (slot : Slot) (v : Value) (d : TypeDef) → form_of rows slot ≡ Some d → has_hole rows slot v ≡ false → is_hole (Some d) (front h rows slot v) ≡ false

@@ -4,6 +4,7 @@ use Rattle.std.specs.Prelude.{Contains, slice_get, option_map, option_and_then, 
 use Rattle.std.specs.List.{AllByRecursion, filter}
 use Rattle.std.proofs.lemmas.List.Elements.{Contains-append_left, Contains-append_right}
 use Rattle.std.proofs.lemmas.Option.{none-some, same_Some}
+use Rattle.ild_data.proofs.AllOf.{all_contained, contains_more}
 use Rattle.ild_data.specs.Data as D
 use Rattle.ild_data.specs.Data.{Data}
 use Rattle.ild_data.specs.Key.{same_text, value_at}
@@ -26,7 +27,6 @@ use Rattle.ild_typed.proofs.Rooms.{all_more}
 use Rattle.ild_typed_places.specs.Parts.{LieIn}
 use Rattle.ild_typed_places.specs.Places.{Place, Places, children_of, each_place, joined, nowhere, places_in, places_in_fields, tops}
 use Rattle.ild_typed_places.proofs.Linked.{each_joined}
-use Rattle.ild_typed_places.proofs.Listing.{all_contained, contains_more}
 use Rattle.ild_typed_places.proofs.Parted.{elements, entries, members}
 use Rattle.ild_path_places.specs.Laws.{ChildrenOfParts, PlacesOfParts}
 

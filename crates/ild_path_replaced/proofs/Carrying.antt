@@ -15,7 +15,7 @@ pub no_step : (e : Located) → lift_within [] e ≡ e
 no_step unchanged = refl
 no_step (one p c) = refl
 
-join_one : (p q : List TreeStep) (e : Located) → lift_within p (lift_within q e) ≡ lift_within (p ++ q) e
+pub join_one : (p q : List TreeStep) (e : Located) → lift_within p (lift_within q e) ≡ lift_within (p ++ q) e
 join_one p q unchanged = refl
 join_one p q (one r c) = ap (λ s. one s c) (sym (joined p q r)) where
   joined : (p q r : List TreeStep) → (p ++ q) ++ r ≡ p ++ (q ++ r)

@@ -1,2 +1,2 @@
-mod Carrying
+pub mod Carrying
 mod Noding

@@ -7,54 +7,34 @@ use Rattle.ild_cbor.specs.Nodes.{Finds, HasData}
 use Rattle.ild_cbor.specs.Span.{entry_of, index_of, item_of, place_of}
 use Rattle.ild_cbor.specs.declared.node.Node.{Node}
 use Rattle.ild_splice_changes.specs.TreeChange.{TreeStep, child, key, nth, part_at}
+use Rattle.ild_data.proofs.Options.{chain_some}
 use Rattle.ild_data.specs.Data as T
 use Rattle.ild_data.specs.Data.{Data}
-use Rattle.ild_path_changes.proofs.Lifting.{chained}
-use Rattle.ild_splice.proofs.Placed.{entries_are_at, items_are_at}
+use Rattle.ild_splice.proofs.Placed.{entries_are_at, items_are_at, item_step, entry_step}
 use Rattle.ild_splice.specs.Splices.{IsAt}
 use Rattle.ild_path_steps.specs.declared.steps.PartSteps.{PartSteps}
 use Rattle.ild_path_steps.specs.declared.steps.PartSteps.TheVariants as P
 use Rattle.ild_path_replaced.specs.Seen.{all_steps, tree_steps}
 
-item_child : (d : Data) (i : ℕ) → item_of d i ≡ child (nth i) d
-item_child T.null i = refl
-item_child (T.boolean b) i = refl
-item_child (T.integer n) i = refl
-item_child (T.text x) i = refl
-item_child (T.bytes x) i = refl
-item_child (T.list ds) i = refl
-item_child (T.map ms) i = refl
-item_child (T.link x) i = refl
-
-entry_child : (d : Data) (k : List ℕ) → entry_of d k ≡ child (key k) d
-entry_child T.null k = refl
-entry_child (T.boolean b) k = refl
-entry_child (T.integer n) k = refl
-entry_child (T.text x) k = refl
-entry_child (T.bytes x) k = refl
-entry_child (T.list ds) k = refl
-entry_child (T.map ms) k = refl
-entry_child (T.link x) k = refl
-
 -- the part that one step leads to
 one_part : (s : TreeStep) (d e : Data) → part_at (s ∷ []) d ≡ Some e → child s d ≡ Some e
-one_part s d e h = let x = chained (λ y. Some y) (child s d) e h in x.1 ∙ x.2
+one_part s d e h = let x = chain_some (λ y. Some y) (child s d) e h in x.1 ∙ x.2
 
 at_part : (n : Node) (t e d : Data) (q : List TreeStep) → e ≡ d → IsAt n t q e → IsAt n t q d
 at_part n t e d q same h = subst (IsAt n t q) same h
 
 module _ (n : Node) (t d e : Data) (q : List TreeStep) (at : IsAt n t q d) where
   pub item_at : (i : ℕ) (r : Option Node) → ((u : Data) → IsAt n t q u → Finds n (place_of u i) (item_of u i) r) → child (nth i) d ≡ Some e → IsSomeAnd r (λ m. IsAt m t (q ++ nth i ∷ []) e)
-  item_at i None finds h = subst (λ o. Finds n (place_of d i) o None) (item_child d i ∙ h) (finds d at)
+  item_at i None finds h = subst (λ o. Finds n (place_of d i) o None) (item_step d i ∙ h) (finds d at)
   item_at i (Some m) finds h =
       let x = items_are_at n m t d q i at (finds d at) in
-      at_part m t x.part e (q ++ nth i ∷ []) (same_Some x.part e (sym x.is ∙ item_child d i ∙ h)) x.at
+      at_part m t x.part e (q ++ nth i ∷ []) (same_Some x.part e (sym x.is ∙ item_step d i ∙ h)) x.at
 
   pub entry_at : (k : List ℕ) (r : Option Node) → ((u : Data) → IsAt n t q u → Finds n (place_of u (index_of k u)) (entry_of u k) r) → child (key k) d ≡ Some e → IsSomeAnd r (λ m. IsAt m t (q ++ key k ∷ []) e)
-  entry_at k None finds h = subst (λ o. Finds n (place_of d (index_of k d)) o None) (entry_child d k ∙ h) (finds d at)
+  entry_at k None finds h = subst (λ o. Finds n (place_of d (index_of k d)) o None) (entry_step d k ∙ h) (finds d at)
   entry_at k (Some m) finds h =
       let x = entries_are_at n m t d q k at (finds d at) in
-      at_part m t x.part e (q ++ key k ∷ []) (same_Some x.part e (sym x.is ∙ entry_child d k ∙ h)) x.at
+      at_part m t x.part e (q ++ key k ∷ []) (same_Some x.part e (sym x.is ∙ entry_step d k ∙ h)) x.at
 
 split_at : (s : TreeStep) (p q : List TreeStep) (d e : Data) (o : Option Data) → child s d ≡ o → option_and_then (λ u. part_at (p ++ q) u) o ≡ Some e
     → ((u : Data) → part_at (p ++ q) u ≡ Some e → (m : Data) × (part_at p u ≡ Some m) × (part_at q m ≡ Some e)) → (m : Data) × (part_at (s ∷ p) d ≡ Some m) × (part_at q m ≡ Some e)
@@ -82,7 +62,7 @@ module _ (n : Node) (t d e : Data) (q : List TreeStep) (at : IsAt n t q d) (step
   -- the pair, and its value
   module _ (i : ℕ) (is : steps ≡ P.Pair i) where
     mid : (m : Data) × (child (nth i) d ≡ Some m) × (part_at (nth 1 ∷ []) m ≡ Some e)
-    mid = chained (λ u. part_at (nth 1 ∷ []) u) (child (nth i) d) e (at_steps (P.Pair i) is)
+    mid = chain_some (λ u. part_at (nth 1 ∷ []) u) (child (nth i) d) e (at_steps (P.Pair i) is)
 
     pub no_pair : ((u : Data) → HasData n u → Finds n (place_of u i) (item_of u i) None) → ⊥
     no_pair finds = item_at n t d mid.0 q at i None (λ u x. finds u x.stands) mid.1

@@ -1,8 +1,8 @@
 -- Blocks among others, and blocks that are too long.
-use Rattle.std.proofs.Common.{◌≡◌, inl, inr, ⊎_elim, ℕ, ◌≤◌, Bool, true, false, ◌||◌, List, [], ◌∷◌, ◌++◌, length, refl, sym, ap, ◌∙◌, subst, arith, pos, codes}
-use Rattle.std.proofs.lemmas.Bool.{or_cases, ltb-false}
+use Rattle.std.proofs.Common.{◌≡◌, inl, inr, ⊎_elim, ℕ, ◌≤◌, Bool, true, false, List, [], ◌∷◌, ◌++◌, length, refl, sym, ap, ◌∙◌, subst, arith, pos, codes}
+use Rattle.std.proofs.lemmas.Bool.{or_cases, ltb-false, or_left, or_right}
 use Rattle.std.proofs.lemmas.List.{length-append}
-use Rattle.ild_typed.specs.Among.{AreAmong}
+use Rattle.ild_data.specs.Among.{AreAmong}
 use Rattle.ild_data.specs.Data.{Data, integer, members_of}
 use Rattle.ild_data.specs.Limits.{longest_block}
 use Rattle.ild_data.specs.Spell.{head, spell, spell_members, spell_text}
@@ -17,16 +17,8 @@ among_of b [] held all is = absurd is
 among_of b (c ∷ cs) held all is =
     ⊎_elim (λ same. subst (λ z. IsIn z held) (sym same) (IsIn-of c held all.0)) (λ more. among_of b cs held all.1 more) is
 
-or_first : (a b : Bool) → a ≡ true → (a || b) ≡ true
-or_first true b is = refl
-or_first false b is = absurd cc
-
-or_later : (a b : Bool) → b ≡ true → (a || b) ≡ true
-or_later true b is = refl
-or_later false b is = is
-
 pub long_root : (b : List ℕ) (bs : List (List ℕ)) → is_long b ≡ true → any_long (b ∷ bs) ≡ true
-long_root b bs is = or_first (is_long b) (any_long bs) is
+long_root b bs is = or_left (is_long b) (any_long bs) is
 
 pub long_one : (bs : List (List ℕ)) → any_long bs ≡ true → (b : List ℕ) × IsIn b bs × (is_long b ≡ true)
 long_one [] is = absurd cc
@@ -34,7 +26,7 @@ long_one (b ∷ bs) is = ⊎_elim (λ here. (b, inl refl, here)) (λ more. let x
 
 pub long_any : (b : List ℕ) (bs : List (List ℕ)) → IsIn b bs → is_long b ≡ true → any_long bs ≡ true
 long_any b [] is long = absurd is
-long_any b (c ∷ cs) is long = ⊎_elim (λ same. or_first (is_long c) (any_long cs) (ap is_long (sym same) ∙ long)) (λ more. or_later (is_long c) (any_long cs) (long_any b cs more long)) is
+long_any b (c ∷ cs) is long = ⊎_elim (λ same. or_left (is_long c) (any_long cs) (ap is_long (sym same) ∙ long)) (λ more. or_right (is_long c) (any_long cs) (long_any b cs more long)) is
 
 -- where none is too long
 pub short_one : (b : List ℕ) (bs : List (List ℕ)) → any_long bs ≡ false → IsIn b bs → length b ≤ longest_block

@@ -1,7 +1,7 @@
 -- What came as a node of a part came as one of the whole, and stays so.
 use Rattle.std.proofs.Common.{◌≡◌, ℕ, inl, inr, ⊎_elim, List, Option, Some, None, refl, sym, subst}
 use Rattle.std.specs.Prelude.{IsSome}
-use Rattle.ild_typed.specs.Among.{AreAmong}
+use Rattle.ild_data.specs.Among.{AreAmong}
 use Rattle.ild_edges.specs.Store.{Keeps, block_at}
 use Rattle.ild_schema.specs.declared.row.Row.{Row}
 use Rattle.ild_typed.specs.At.{InSlot, at}

@@ -1,5 +1,5 @@
 -- A holder with room, in which a part is set, inserted or deleted: it has room exactly where the new part does, and the key.
-use Rattle.std.proofs.Common.{cond, ◌≡◌, ℕ, zero, suc, ◌+◌, ◌-◌, ◌≤◌, List, [], ◌∷◌, length, slice_get, Bool, true, false, Option, Some, None, refl, ap, sym, subst, ◌∙◌}
+use Rattle.std.proofs.Common.{cond, ◌≡◌, ℕ, zero, suc, ◌-◌, ◌≤◌, List, [], ◌∷◌, length, slice_get, Bool, true, false, Option, Some, None, refl, ap, sym, subst}
 use Rattle.std.specs.Prelude.{IsSomeAnd, is_some, slice_set, insert, remove, option_map, option_and_then}
 use Rattle.std.specs.Option.{option_map_or}
 use Rattle.std.specs.List.{AllByRecursion}
@@ -13,7 +13,7 @@ use Rattle.ild_schema.specs.declared.number.Slot.{Slot}
 use Rattle.ild_schema.specs.declared.row.Row.{Row}
 use Rattle.ild_schema.specs.Prelude.{anything}
 use Rattle.ild_schema.specs.Slots.{form_of, plainly}
-use Rattle.ild_schema.specs.Value.{Value, null, any}
+use Rattle.ild_schema.specs.Value.{Value}
 use Rattle.ild_typed.specs.Holder.{Holder, fields, member, entries, elements, any_entries, any_elements, nothing, of_any, data_in}
 use Rattle.ild_typed.specs.Segment.{part, set_part, set_field, field_at, index_of, member_named, held_as, at_index}
 use Rattle.ild_typed.specs.At.{InSlot}
@@ -22,13 +22,13 @@ use Rattle.ild_typed.specs.OfType.{OfType}
 use Rattle.ild_value_meaning.proofs.Members.{member-named}
 use Rattle.ild_path_edits.specs.Along.{taken}
 use Rattle.ild_path_edits.specs.Table.{declared_slot, slot_to_set, if_absent, slot_left_out, slot_to_insert, new_index, insert_part, delete_part}
-use Rattle.ild_path_edits.proofs.Entries.{put_by-there, field-there}
-use Rattle.ild_path_edits.proofs.HeldTyped.{with_slot, inside_any, slot_given, indexed, held_is}
+use Rattle.ild_path_edits.proofs.Entries.{put_by-there}
+use Rattle.ild_path_edits.proofs.HeldTyped.{with_slot, inside_any, slot_given, indexed, held_is, new_key}
 use Rattle.ild_path_edits.proofs.Typing.{each_got, each_with, each_inserted, each_removed, each_at, each_by, each_put, each_without, each_found}
 use Rattle.ild_path_room.specs.Room.{KeyFits}
 use Rattle.ild_build.proofs.RoomParts.{null_room}
 use Rattle.ild_path_room.proofs.Depths.{Shallow, ShallowEntry}
-use Rattle.ild_path_room.proofs.Roomy.{PresentFits, EachPresent, Left, EntryLeft, IsRoomy, any_fits, depth_in}
+use Rattle.ild_path_room.proofs.Roomy.{EachPresent, Left, EntryLeft, IsRoomy, any_fits, depth_in}
 
 -- ---- fields
 
@@ -84,10 +84,6 @@ left_out : (s : List ℕ) (fs : List Field) (os : List (Option Value)) (r : Slot
 left_out s [] os r e = absurd (none-some r e)
 left_out s (f ∷ fs) [] r e = absurd (none-some r e)
 left_out s (f ∷ fs) (o ∷ os) r e = left_out_first s f fs o os r (same_text s f.name) e (λ g. left_out s fs os r g)
-
-new_key : (b : Bool) (slot r : Slot) → cond b None (Some slot) ≡ Some r → Some slot ≡ Some r
-new_key true slot r e = absurd (none-some r e)
-new_key false slot r e = e
 
 -- ---- what was inserted is one of them
 

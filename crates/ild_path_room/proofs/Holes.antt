@@ -7,7 +7,7 @@ use Rattle.std.proofs.lemmas.Option.{same_Some, none-some}
 use Rattle.ild_data.specs.Data as T
 use Rattle.ild_data.specs.Data.{Data}
 use Rattle.ild_data.specs.Key.{same_text}
-use Rattle.ild_path_edits.specs.Table.{insert_part, delete_part}
+use Rattle.ild_path_edits.specs.Table.{delete_part}
 use Rattle.ild_path_room.specs.Hole.{TellsHole, is_tuple, stands_as_tuple, told_at}
 use Rattle.ild_path_room.specs.Room.{Coming, by_set, by_insert, brought}
 use Rattle.ild_path_room.specs.declared.hole.PartEdit.{PartEdit}
@@ -30,9 +30,8 @@ use Rattle.ild_typed.specs.Judged.{is_hole, tuple_hole, hole_in, some_present}
 use Rattle.ild_typed.specs.Layer as L
 use Rattle.ild_typed.specs.Layers.{FieldsFit}
 use Rattle.ild_typed.specs.OfType.{OfType}
-use Rattle.ild_typed.specs.Segment.{set_field, set_part}
+use Rattle.ild_typed.specs.Segment.{set_field}
 use Rattle.ild_typed.proofs.FormOf.{struct_form, any_form}
-use Rattle.ild_typed.proofs.Lists.{optionals_list-optionals_of}
 use Rattle.ild_typed.proofs.OneLayer.{in_layer}
 use Rattle.ild_view.specs.Counted.{count_in, present_of}
 

@@ -1,20 +1,25 @@
 -- The item of a part is no longer than that of its holder, where the part has parts itself: nothing of it is left out of a block.
-use Rattle.std.proofs.Common.{◌≡◌, ◌≤◌, ℕ, suc, zero, Bool, true, false, cond, List, [], ◌∷◌, ◌++◌, length, length-append, map, slice_get, Option, Some, None, refl, sym, ◌∙◌, ap, subst, arith}
+use Rattle.std.proofs.Common.{◌≡◌, ◌≤◌, ℕ, suc, Bool, true, false, cond, List, [], ◌∷◌, ◌++◌, length, length-append, map, slice_get, Option, Some, None, sym, ◌∙◌, ap, subst, arith}
 use Rattle.std.specs.Option.{option_map_or}
-use Rattle.std.specs.Prelude.{is_none, option_and_then, option_map}
+use Rattle.std.specs.Prelude.{option_and_then, option_map}
 use Rattle.std.proofs.lemmas.Option.{none-some, same_Some}
+use Rattle.ild_typed.proofs.Basics.{if_from}
+use Rattle.ild_typed.proofs.Unions.{only_map_data}
+use Rattle.ild_typed.proofs.Entries.{only_bytes_data, only_text_data}
+use Rattle.ild_data.proofs.Options.{none_is, chain_some, map_some}
+use Rattle.ild_data.proofs.HeadSizes.{bytes_more, text_more}
 use Rattle.ild_data.proofs.Lists.{items_of-items_list, members_of-members_list}
 use Rattle.ild_data.specs.Data as T
 use Rattle.ild_data.specs.Data.{Data, items_list, items_of, members_list, members_of}
 use Rattle.ild_data.specs.Key.{put, same_text, value_at}
 use Rattle.ild_data.specs.Spell.{spell}
 use Rattle.ild_path_changes.proofs.Datas.{each}
-use Rattle.ild_path_changes.proofs.Each.{each_pair-at, joined as both}
+use Rattle.ild_path_changes.proofs.Each.{each_pair-at, each-get}
 use Rattle.ild_path_changes.proofs.Fields.{risen-at, written-at}
-use Rattle.ild_path_changes.proofs.Lifting.{chained, field_data-each, opened, present_field, tuple_item, written_is}
+use Rattle.ild_path_changes.proofs.Lifting.{field_data-each, present_field, tuple_item, written_is}
 use Rattle.ild_path_changes.proofs.Represented.{inside_data}
 use Rattle.ild_path_changes.specs.Places.{field_data, field_named, field_place, left_out, written}
-use Rattle.ild_path_sizes.proofs.Sizes.{bytes_more, in_joined, in_list, in_map, in_paired, in_pairs, in_put, text_is, text_more}
+use Rattle.ild_path_sizes.proofs.Sizes.{in_joined, in_list, in_map, in_paired, in_pairs, in_put}
 use Rattle.ild_path_edits.proofs.HeldTyped.{held_is, inside_any, with_slot}
 use Rattle.ild_path_holder.proofs.Written.{is_written}
 use Rattle.ild_path_holder.specs.Along.{is_holder}
@@ -59,25 +64,21 @@ Shorter t u = length (spell t) ≤ length (spell u)
 same_data : (t u v : Data) → u ≡ v → Shorter t u → Shorter t v
 same_data t u v e h = subst (Shorter t) e h
 
-if_true : {A : Type 0} (b : Bool) (o : Option A) (x : A) → cond b o None ≡ Some x → (b ≡ true) × (o ≡ Some x)
-if_true true o x e = (refl, e)
-if_true false o x e = absurd (none-some x e)
-
 -- ---- texts of parts
 
 paired : (inner entry k : List ℕ) (es : List (List ℕ × Data)) (t u : Data) → stringpairs inner entry es ≡ Some u → value_at k es ≡ Some t → Shorter t u
 paired inner entry k es t u made there =
-    let y = opened T.text (option_and_then (join_pairs inner entry) (text_pairs es)) u made in
-    let z = chained (join_pairs inner entry) (text_pairs es) y.0 y.1 in
-    let a = if_true _ (join entry (map (pair_text inner) z.0)) y.0 z.2 in
-    let b = if_true _ (Some (joined entry (map (pair_text inner) z.0))) y.0 a.1 in
+    let y = map_some T.text (option_and_then (join_pairs inner entry) (text_pairs es)) u made in
+    let z = chain_some (join_pairs inner entry) (text_pairs es) y.0 y.1 in
+    let a = if_from _ (join entry (map (pair_text inner) z.0)) y.0 z.2 in
+    let b = if_from _ (Some (joined entry (map (pair_text inner) z.0))) y.0 a.1 in
     same_data t (T.text (joined entry (map (pair_text inner) z.0))) u (ap T.text (same_Some (joined entry (map (pair_text inner) z.0)) y.0 b.1) ∙ y.2) (in_paired inner entry k es z.0 t z.1 there)
 
 joined_at : (delim : List ℕ) (ds : List Data) (i : ℕ) (t u : Data) → stringjoin delim ds ≡ Some u → slice_get ds i ≡ Some t → Shorter t u
 joined_at delim ds i t u made there =
-    let y = opened T.text (option_and_then (join delim) (texts_in ds)) u made in
-    let z = chained (join delim) (texts_in ds) y.0 y.1 in
-    let b = if_true _ (Some (joined delim z.0)) y.0 z.2 in
+    let y = map_some T.text (option_and_then (join delim) (texts_in ds)) u made in
+    let z = chain_some (join delim) (texts_in ds) y.0 y.1 in
+    let b = if_from _ (Some (joined delim z.0)) y.0 z.2 in
     same_data t (T.text (joined delim z.0)) u (ap T.text (same_Some (joined delim z.0) y.0 b.1) ∙ y.2) (in_joined delim ds z.0 i t z.1 there)
 
 -- ---- structs
@@ -91,7 +92,7 @@ all_item s [] ds xs t h e = absurd (none-some t e)
 all_item s (f ∷ fs) [] xs t h e = absurd (none-some t e)
 all_item s (f ∷ fs) (None ∷ os) xs t h e = absurd (none-some xs h)
 all_item s (f ∷ fs) (Some a ∷ os) xs t h e =
-    let x = opened (λ ds. a ∷ ds) (all_items fs os) xs h in
+    let x = map_some (λ ds. a ∷ ds) (all_items fs os) xs h in
     subst (λ ys. slice_get ys (field_place s (f ∷ fs)) ≡ Some t) x.2 (item_first f a t (field_data s fs os) x.0 (field_place s fs) (same_text s f.name) e (λ g. all_item s fs os x.0 t x.1 g))
 
 module _ (fs : List Field) (ds : List (Option Data)) (t u : Data) (s : List ℕ) (g : Field) (named : field_named s fs ≡ Some g) (held : field_data s fs ds ≡ Some t) (out : left_out g t ≡ false) where
@@ -102,47 +103,23 @@ module _ (fs : List Field) (ds : List (Option Data)) (t u : Data) (s : List ℕ)
 
   in_struct : (form : StructForm) → struct_form form fs ds ≡ Some u → ClearStruct form fs → Shorter t u
   in_struct S.Map made clear =
-      let x = opened (λ es. map_data (in_key_order es)) (field_entries fs ds) u made in
+      let x = map_some (λ es. map_data (in_key_order es)) (field_entries fs ds) u made in
       same_data t (map_data (in_key_order x.0)) u x.2 (in_map (field_text g) (in_key_order x.0) t (risen-at x.0 (field_text g) ∙ entry_there clear x.0 x.1))
   in_struct S.Tuple made clear =
-      let x = opened (λ xs. T.list (items_of xs)) (tuple_items fs ds) u made in
+      let x = map_some (λ xs. T.list (items_of xs)) (tuple_items fs ds) u made in
       let i = tuple_item s fs ds x.0 t x.1 held in
       same_data t (T.list (items_of x.0)) u x.2 (in_list x.0 (field_place s fs) t i.there)
   in_struct S.ListPairs made clear =
-      let x = opened listpairs (field_entries fs ds) u made in
+      let x = map_some listpairs (field_entries fs ds) u made in
       same_data t (listpairs x.0) u x.2 (in_pairs (field_text g) x.0 t (entry_there clear x.0 x.1))
   in_struct (S.StringPairs inner entry) made clear =
-      let x = chained (stringpairs inner entry) (field_entries fs ds) u made in
+      let x = chain_some (stringpairs inner entry) (field_entries fs ds) u made in
       paired inner entry (field_text g) x.0 t u x.2 (entry_there clear.0 x.0 x.1)
   in_struct (S.StringJoin delim) made clear =
-      let x = chained (stringjoin delim) (all_items fs ds) u made in
+      let x = chain_some (stringjoin delim) (all_items fs ds) u made in
       joined_at delim x.0 (field_place s fs) t u x.2 (all_item s fs ds x.0 t x.1 held)
 
 -- ---- unions
-
-map_is : (d : Data) (ms : List (List ℕ × Data)) → members_in d ≡ Some ms → d ≡ map_data ms
-map_is (T.map ms) ns e = ap T.map (sym (members_of-members_list ms) ∙ ap members_of (same_Some (members_list ms) ns e))
-map_is T.null ns e = absurd (none-some ns e)
-map_is (T.boolean b) ns e = absurd (none-some ns e)
-map_is (T.integer n) ns e = absurd (none-some ns e)
-map_is (T.text t) ns e = absurd (none-some ns e)
-map_is (T.bytes t) ns e = absurd (none-some ns e)
-map_is (T.list ds) ns e = absurd (none-some ns e)
-map_is (T.link t) ns e = absurd (none-some ns e)
-
-bytes_is : (d : Data) (s : List ℕ) → bytes_in d ≡ Some s → d ≡ T.bytes s
-bytes_is (T.bytes t) s e = ap T.bytes (same_Some t s e)
-bytes_is T.null s e = absurd (none-some s e)
-bytes_is (T.boolean b) s e = absurd (none-some s e)
-bytes_is (T.integer n) s e = absurd (none-some s e)
-bytes_is (T.text t) s e = absurd (none-some s e)
-bytes_is (T.list ds) s e = absurd (none-some s e)
-bytes_is (T.map ms) s e = absurd (none-some s e)
-bytes_is (T.link t) s e = absurd (none-some s e)
-
-none_is : {A : Type 0} (o : Option A) → is_none o ≡ true → o ≡ None
-none_is None e = refl
-none_is (Some x) e = absurd cc
 
 own_entry : (k : List ℕ) (t : Data) → value_at k ((k, t) ∷ []) ≡ Some t
 own_entry k t = ap (λ b. cond b (Some t) None) (own_text k)
@@ -151,30 +128,30 @@ in_marked : (form : UnionForm) (t u : Data) (name : List ℕ) → marked_form fo
 in_marked U.Keyed t u name made apart = same_data t (map_data ((name, t) ∷ [])) u (same_Some (map_data ((name, t) ∷ [])) u made) (in_map name ((name, t) ∷ []) t (own_entry name t))
 in_marked U.Kinded t u name made apart = absurd (none-some u made)
 in_marked U.StringPrefix t u name made apart =
-    let x = opened (λ s. T.text (name ++ s)) (text_in t) u made in
-    subst (λ y. Shorter y u) (sym (text_is t x.0 x.1)) (same_data (T.text x.0) (T.text (name ++ x.0)) u x.2 (text_more x.0 (name ++ x.0) (omega (arith, length-append name x.0))))
+    let x = map_some (λ s. T.text (name ++ s)) (text_in t) u made in
+    subst (λ y. Shorter y u) (sym (only_text_data t x.0 x.1)) (same_data (T.text x.0) (T.text (name ++ x.0)) u x.2 (text_more x.0 (name ++ x.0) (omega (arith, length-append name x.0))))
 in_marked U.BytesPrefix t u name made apart =
-    let f = chained (λ front. option_map (λ s. T.bytes (front ++ s)) (bytes_in t)) (bytes_of_hex name) u made in
-    let x = opened (λ s. T.bytes (f.0 ++ s)) (bytes_in t) u f.2 in
-    subst (λ y. Shorter y u) (sym (bytes_is t x.0 x.1)) (same_data (T.bytes x.0) (T.bytes (f.0 ++ x.0)) u x.2 (bytes_more x.0 (f.0 ++ x.0) (omega (arith, length-append f.0 x.0))))
+    let f = chain_some (λ front. option_map (λ s. T.bytes (front ++ s)) (bytes_in t)) (bytes_of_hex name) u made in
+    let x = map_some (λ s. T.bytes (f.0 ++ s)) (bytes_in t) u f.2 in
+    subst (λ y. Shorter y u) (sym (only_bytes_data t x.0 x.1)) (same_data (T.bytes x.0) (T.bytes (f.0 ++ x.0)) u x.2 (bytes_more x.0 (f.0 ++ x.0) (omega (arith, length-append f.0 x.0))))
 in_marked (U.Envelope key content) t u name made apart =
     let ms = put key (T.text name) ((content, t) ∷ []) in
     same_data t (map_data ms) u (same_Some (map_data ms) u made) (in_map content ms t (put-other key content (T.text name) ((content, t) ∷ []) apart ∙ own_entry content t))
 in_marked (U.Inline key) t u name made apart =
-    let x = chained (inlined key name) (members_in t) u made in
-    let y = if_true _ (Some (map_data (put key (T.text name) x.0))) u x.2 in
-    subst (λ y. Shorter y u) (sym (map_is t x.0 x.1)) (same_data (map_data x.0) (map_data (put key (T.text name) x.0)) u (same_Some (map_data (put key (T.text name) x.0)) u y.1) (in_put key (T.text name) x.0 (none_is (value_at key x.0) y.0)))
+    let x = chain_some (inlined key name) (members_in t) u made in
+    let y = if_from _ (Some (map_data (put key (T.text name) x.0))) u x.2 in
+    subst (λ y. Shorter y u) (sym (only_map_data t x.0 x.1)) (same_data (map_data x.0) (map_data (put key (T.text name) x.0)) u (same_Some (map_data (put key (T.text name) x.0)) u y.1) (in_put key (T.text name) x.0 (none_is (value_at key x.0) y.0)))
 
 in_union : (form : UnionForm) (t u : Data) (m : Member) → member_form form t m ≡ Some u → KeysApart form → Shorter t u
 in_union U.Kinded t u m made apart =
-    let x = chained _ (mark_kind m.mark) u made in
-    let y = if_true _ (Some t) u x.2 in
+    let x = chain_some _ (mark_kind m.mark) u made in
+    let y = if_from _ (Some t) u x.2 in
     same_data t t u (same_Some t u y.1) (omega arith)
-in_union U.Keyed t u m made apart = let x = chained (marked_form U.Keyed t) (mark_text m.mark) u made in in_marked U.Keyed t u x.0 x.2 apart
-in_union U.StringPrefix t u m made apart = let x = chained (marked_form U.StringPrefix t) (mark_text m.mark) u made in in_marked U.StringPrefix t u x.0 x.2 apart
-in_union U.BytesPrefix t u m made apart = let x = chained (marked_form U.BytesPrefix t) (mark_text m.mark) u made in in_marked U.BytesPrefix t u x.0 x.2 apart
-in_union (U.Envelope key content) t u m made apart = let x = chained (marked_form (U.Envelope key content) t) (mark_text m.mark) u made in in_marked (U.Envelope key content) t u x.0 x.2 apart
-in_union (U.Inline key) t u m made apart = let x = chained (marked_form (U.Inline key) t) (mark_text m.mark) u made in in_marked (U.Inline key) t u x.0 x.2 apart
+in_union U.Keyed t u m made apart = let x = chain_some (marked_form U.Keyed t) (mark_text m.mark) u made in in_marked U.Keyed t u x.0 x.2 apart
+in_union U.StringPrefix t u m made apart = let x = chain_some (marked_form U.StringPrefix t) (mark_text m.mark) u made in in_marked U.StringPrefix t u x.0 x.2 apart
+in_union U.BytesPrefix t u m made apart = let x = chain_some (marked_form U.BytesPrefix t) (mark_text m.mark) u made in in_marked U.BytesPrefix t u x.0 x.2 apart
+in_union (U.Envelope key content) t u m made apart = let x = chain_some (marked_form (U.Envelope key content) t) (mark_text m.mark) u made in in_marked (U.Envelope key content) t u x.0 x.2 apart
+in_union (U.Inline key) t u m made apart = let x = chain_some (marked_form (U.Inline key) t) (mark_text m.mark) u made in in_marked (U.Inline key) t u x.0 x.2 apart
 
 -- ---- maps and lists
 
@@ -183,11 +160,6 @@ in_form MF.Map k es t u made there = same_data t (map_data es) u (same_Some (map
 in_form MF.ListPairs k es t u made there = same_data t (listpairs es) u (same_Some (listpairs es) u made) (in_pairs k es t there)
 in_form (MF.StringPairs inner entry) k es t u made there = paired inner entry k es t u made there
 in_form (MF.Hamt shape) k es t u made there = absurd (none-some u made)
-
-each_at : {X Y : Type 0} (f : X → Option Y) (xs : List X) (ds : List Y) (i : ℕ) (x : X) (d : Y) → each f xs ≡ Some ds → slice_get xs i ≡ Some x → f x ≡ Some d → slice_get ds i ≡ Some d
-each_at f [] ds i x d h e is = absurd (none-some x e)
-each_at f (y ∷ ys) ds zero x d h e is = let j = both (f y) (each f ys) ds h in ap (λ zs. slice_get zs 0) (sym j.whole) ∙ sym j.is_first ∙ ap f (same_Some y x e) ∙ is
-each_at f (y ∷ ys) ds (suc i) x d h e is = let j = both (f y) (each f ys) ds h in ap (λ zs. slice_get zs (suc i)) (sym j.whole) ∙ each_at f ys j.rest i x d j.is_rest e is
 
 -- ---- data inside an Any
 
@@ -198,7 +170,7 @@ module _ (rows : List Row) (any_there : form_of rows anything ≡ Some D.Any) (q
   in_any_data : (u : Data) (s : List ℕ) → part (any_holder u) s ≡ Some q → Shorter t u
   in_any_data (T.list ds) s e =
       let x = inside_any (option_and_then (λ i. slice_get (items_list ds) i) (index_of s)) q e in
-      let y = chained (λ i. slice_get (items_list ds) i) (index_of s) x.0 x.1 in
+      let y = chain_some (λ i. slice_get (items_list ds) i) (index_of s) x.0 x.1 in
       subst (λ d. Shorter d (T.list ds)) (inside_is x.0 x.2) (same_data x.0 (T.list (items_of (items_list ds))) (T.list ds) (ap T.list (items_of-items_list ds)) (in_list (items_list ds) y.0 x.0 y.2))
   in_any_data (T.map ms) s e =
       let x = inside_any (value_at s (members_list ms)) q e in
@@ -246,9 +218,9 @@ part_shorter rows legible any_there p q s t u made partly there out = let h = is
       in_form form s es t u b (each_pair-at (represented alone rows elem) ps es s a ∙ ap (option_and_then (represented alone rows elem)) y.1 ∙ is)
   by d known (of_elements elem at vs ds e z a b) =
       let y = with_slot elem (option_and_then (λ i. slice_get vs i) (index_of s)) q (sym (ap (λ h. part h s) z) ∙ there) in
-      let x = chained (λ i. slice_get vs i) (index_of s) y.0 y.1 in
+      let x = chain_some (λ i. slice_get vs i) (index_of s) y.0 y.1 in
       let is : represented alone rows elem y.0 ≡ Some t = (λ i. represented alone rows ((y.2 i).0) ((y.2 i).1)) ∙ partly in
-      same_data t (T.list (items_of ds)) u (sym b) (in_list ds x.0 t (each_at (represented alone rows elem) vs ds x.0 y.0 t a x.2 is))
+      same_data t (T.list (items_of ds)) u (sym b) (in_list ds x.0 t (each-get (represented alone rows elem) vs ds x.0 y.0 t a x.2 is))
   by d known (of_any e z) = in_any_data rows any_there q t partly u s (sym (ap (λ h. part h s) z) ∙ there)
   by d known (of_nothing v z) = absurd (none-some q (sym (ap (λ h. part h s) z) ∙ there))
 

@@ -1,89 +1,22 @@
 -- The sizes of spelled texts, items and entries: what is made of others is no shorter.
-use Rattle.std.proofs.Common.{◌≡◌, ℕ, zero, suc, ◌+◌, ◌*◌, ◌^◌, ◌≤◌, Bool, true, false, cond, nat_lt, List, [], ◌∷◌, ◌++◌, length, length-append, map, slice_get, Option, Some, None, refl, sym, ap, ◌∙◌, subst, arith}
-use Rattle.std.specs.Int.{to_be_bytes, w16, w32, w64}
-use Rattle.std.specs.Prelude.{if◌then◌else◌, option_map}
+use Rattle.std.proofs.Common.{◌≡◌, ℕ, zero, suc, ◌+◌, ◌≤◌, Bool, true, false, cond, List, [], ◌∷◌, ◌++◌, length, length-append, map, slice_get, Option, Some, None, refl, sym, ap, ◌∙◌, subst, arith}
+use Rattle.std.specs.Prelude.{option_map}
 use Rattle.std.specs.declared.cmp.Ordering.{Ordering}
 use Rattle.std.specs.declared.cmp.Ordering.TheVariants.{Equal, Greater, Less}
-use Rattle.std.proofs.lemmas.Bool.Decides.{nat_tests}
 use Rattle.std.proofs.lemmas.Option.{none-some, same_Some}
+use Rattle.ild_typed.proofs.Entries.{only_text_data}
+use Rattle.ild_data.proofs.Options.{map_some}
 use Rattle.ild_data.proofs.Lists.{length-members}
 use Rattle.ild_data.proofs.Rising.{agrees}
 use Rattle.ild_data.specs.Data as T
 use Rattle.ild_data.specs.Data.{Data, items_list, items_of, members_list, members_of}
 use Rattle.ild_data.specs.Key.{key_cmp, put, same_text, value_at}
-use Rattle.ild_data.specs.Spell.{head, spell, spell_bytes, spell_items, spell_members, spell_text}
+use Rattle.ild_data.specs.Spell.{head, spell, spell_items, spell_members, spell_text}
 use Rattle.ild_path_changes.proofs.Each.{joined as both}
-use Rattle.ild_path_changes.proofs.Lifting.{opened}
 use Rattle.ild_schema.specs.Joins.{joined, pair_text}
 use Rattle.ild_splice.proofs.Keyed.{put_greater, put_less}
 use Rattle.ild_typed.specs.Strings.{map_data, pair_data, text_in, text_pairs, texts_in}
-
--- ---- heads
-
-abbrev head_by : ℕ → ℕ → Bool → Bool → Bool → Bool → List ℕ
-head_by major n a b c d =
-    if a then (32 * major + n) ∷ []
-    else if b then (32 * major + 24) ∷ n ∷ []
-    else if c then (32 * major + 25) ∷ to_be_bytes w16 n
-    else if d then (32 * major + 26) ∷ to_be_bytes w32 n
-    else (32 * major + 27) ∷ to_be_bytes w64 n
-
-abbrev size_by : Bool → Bool → Bool → Bool → ℕ
-size_by a b c d = cond a 1 (cond b 2 (cond c 3 (cond d 5 9)))
-
-at_most_2 : (a c d : Bool) → size_by a true c d ≤ 2
-at_most_2 true c d = omega arith
-at_most_2 false c d = omega arith
-
-at_most_3 : (a b d : Bool) → size_by a b true d ≤ 3
-at_most_3 true b d = omega arith
-at_most_3 false true d = omega arith
-at_most_3 false false d = omega arith
-
-at_most_5 : (a b c : Bool) → size_by a b c true ≤ 5
-at_most_5 true b c = omega arith
-at_most_5 false true c = omega arith
-at_most_5 false false true = omega arith
-at_most_5 false false false = omega arith
-
-at_most_9 : (a b c d : Bool) → size_by a b c d ≤ 9
-at_most_9 true b c d = omega arith
-at_most_9 false true c d = omega arith
-at_most_9 false false true d = omega arith
-at_most_9 false false false true = omega arith
-at_most_9 false false false false = omega arith
-
-sizes : (a b c d e f g h : Bool) → (e ≡ true → a ≡ true) → (f ≡ true → b ≡ true) → (g ≡ true → c ≡ true) → (h ≡ true → d ≡ true) → size_by a b c d ≤ size_by e f g h
-sizes a b c d true f g h p q r s = omega (arith, ap (λ x. size_by x b c d) (p refl))
-sizes a b c d false true g h p q r s = omega (arith, ap (λ x. size_by a x c d) (q refl), at_most_2 a c d)
-sizes a b c d false false true h p q r s = omega (arith, ap (λ x. size_by a b x d) (r refl), at_most_3 a b d)
-sizes a b c d false false false true p q r s = omega (arith, ap (size_by a b c) (s refl), at_most_5 a b c)
-sizes a b c d false false false false p q r s = at_most_9 a b c d
-
-head_size : (major n : ℕ) → length (head major n) ≡ size_by (nat_lt n 24) (nat_lt n (2 ^ 8)) (nat_lt n (2 ^ 16)) (nat_lt n (2 ^ 32))
-head_size major n = by (nat_lt n 24) (nat_lt n (2 ^ 8)) (nat_lt n (2 ^ 16)) (nat_lt n (2 ^ 32))
-  where
-    by : (a b c d : Bool) → length (head_by major n a b c d) ≡ size_by a b c d
-    by true b c d = refl
-    by false true c d = refl
-    by false false true d = refl
-    by false false false true = refl
-    by false false false false = refl
-
-below : (m n k : ℕ) → m ≤ n → nat_lt n k ≡ true → nat_lt m k ≡ true
-below m n k le e = grind (arith, nat_tests, le, e)
-
-pub head_more : (major m n : ℕ) → m ≤ n → length (head major m) ≤ length (head major n)
-head_more major m n le =
-    let more = sizes (nat_lt m 24) (nat_lt m (2 ^ 8)) (nat_lt m (2 ^ 16)) (nat_lt m (2 ^ 32)) (nat_lt n 24) (nat_lt n (2 ^ 8)) (nat_lt n (2 ^ 16)) (nat_lt n (2 ^ 32))
-    (below m n 24 le) (below m n (2 ^ 8) le) (below m n (2 ^ 16) le) (below m n (2 ^ 32) le) in
-    omega (arith, head_size major m, head_size major n, more)
-
-pub text_more : (s t : List ℕ) → length s ≤ length t → length (spell_text s) ≤ length (spell_text t)
-text_more s t le = omega (arith, length-append (head 3 (length s)) s, length-append (head 3 (length t)) t, head_more 3 (length s) (length t) le, le)
-
-pub bytes_more : (s t : List ℕ) → length s ≤ length t → length (spell_bytes s) ≤ length (spell_bytes t)
-bytes_more s t le = omega (arith, length-append (head 2 (length s)) s, length-append (head 2 (length t)) t, head_more 2 (length s) (length t) le, le)
+use Rattle.ild_data.proofs.HeadSizes.{head_more, text_more}
 
 -- ---- items
 
@@ -172,16 +105,6 @@ in_put k x ms e =
 
 -- ---- texts
 
-pub text_is : (d : Data) (s : List ℕ) → text_in d ≡ Some s → d ≡ T.text s
-text_is (T.text t) s e = ap T.text (same_Some t s e)
-text_is T.null s e = absurd (none-some s e)
-text_is (T.boolean b) s e = absurd (none-some s e)
-text_is (T.integer n) s e = absurd (none-some s e)
-text_is (T.bytes t) s e = absurd (none-some s e)
-text_is (T.list ds) s e = absurd (none-some s e)
-text_is (T.map ms) s e = absurd (none-some s e)
-text_is (T.link t) s e = absurd (none-some s e)
-
 pub part_within : (delim : List ℕ) (ps : List (List ℕ)) (i : ℕ) (s : List ℕ) → slice_get ps i ≡ Some s → length s ≤ length (joined delim ps)
 part_within delim [] i s e = absurd (none-some s e)
 part_within delim (p ∷ []) zero s e = let same = ap length (same_Some p s e) in omega (arith, same)
@@ -196,7 +119,7 @@ pub text_at : (ds : List Data) (ss : List (List ℕ)) (i : ℕ) (d : Data) → t
 text_at [] ss i d h e = absurd (none-some d e)
 text_at (x ∷ xs) ss zero d h e =
     let j = both (text_in x) (texts_in xs) ss h in
-    (j.first, sym (same_Some x d e) ∙ text_is x j.first j.is_first, ap (λ ys. slice_get ys 0) (sym j.whole))
+    (j.first, sym (same_Some x d e) ∙ only_text_data x j.first j.is_first, ap (λ ys. slice_get ys 0) (sym j.whole))
 text_at (x ∷ xs) ss (suc i) d h e =
     let j = both (text_in x) (texts_in xs) ss h in
     let more = text_at xs j.rest i d j.is_rest e in
@@ -213,7 +136,7 @@ PairAt inner ps d = (s : List ℕ) × (d ≡ T.text s) × (i : ℕ) × (t : List
 
 pair_step : (inner : List ℕ) (m : List ℕ × Data) (o : Option Data) (s : List ℕ) (qs ps : List (List ℕ × List ℕ)) (d : Data) (b : Bool) → cond b (Some m.1) o ≡ Some d → text_in m.1 ≡ Some s → (m.0, s) ∷ qs ≡ ps → (o ≡ Some d → PairAt inner qs d) → PairAt inner ps d
 pair_step inner m o s qs ps d true e is all rest =
-    (s, sym (same_Some m.1 d e) ∙ text_is m.1 s is, 0, pair_text inner (m.0, s), ap (λ ys. slice_get (map (pair_text inner) ys) 0) (sym all), omega (arith, length-append m.0 (inner ++ s), length-append inner s))
+    (s, sym (same_Some m.1 d e) ∙ only_text_data m.1 s is, 0, pair_text inner (m.0, s), ap (λ ys. slice_get (map (pair_text inner) ys) 0) (sym all), omega (arith, length-append m.0 (inner ++ s), length-append inner s))
 pair_step inner m o s qs ps d false e is all rest =
     let x = rest e in
     (x.0, x.1, suc x.2, x.3, ap (λ ys. slice_get (map (pair_text inner) ys) (suc x.2)) (sym all) ∙ x.4, x.5)
@@ -222,7 +145,7 @@ pub pair_at : (inner k : List ℕ) (ms : List (List ℕ × Data)) (ps : List (Li
 pair_at inner k [] ps d h e = absurd (none-some d e)
 pair_at inner k (m ∷ ms) ps d h e =
     let j = both (option_map (λ s. (m.0, s)) (text_in m.1)) (text_pairs ms) ps h in
-    let x = opened (λ s. (m.0, s)) (text_in m.1) j.first j.is_first in
+    let x = map_some (λ s. (m.0, s)) (text_in m.1) j.first j.is_first in
     pair_step inner m (value_at k ms) x.0 j.rest ps d (same_text k m.0) e x.1 (ap (λ y. y ∷ j.rest) x.2 ∙ j.whole) (λ g. pair_at inner k ms j.rest d j.is_rest g)
 
 pub in_paired : (inner entry k : List ℕ) (ms : List (List ℕ × Data)) (ps : List (List ℕ × List ℕ)) (d : Data) → text_pairs ms ≡ Some ps → value_at k ms ≡ Some d → length (spell d) ≤ length (spell (T.text (joined entry (map (pair_text inner) ps))))

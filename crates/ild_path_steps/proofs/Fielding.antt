@@ -4,6 +4,7 @@ use Rattle.std.specs.List.{AllByRecursion}
 use Rattle.std.proofs.lemmas.Option.{same_Some, none-some}
 use Rattle.ild_splice_changes.specs.TreeChange.{Located, key}
 use Rattle.ild_splice_changes.proofs.Maps.{other_is, own_text}
+use Rattle.ild_data.proofs.Options.{map_some}
 use Rattle.ild_data.specs.Data.{Data}
 use Rattle.ild_data.specs.Key.{same_text, value_at}
 use Rattle.ild_cbor.specs.declared.piece.Piece.{Piece}
@@ -12,7 +13,7 @@ use Rattle.ild_path_changes.specs.Pairs.{pair_if}
 use Rattle.ild_path_changes.specs.Places.{field_data, field_named, field_place, left_out, place_of, written, written_before}
 use Rattle.ild_path_changes.proofs.Datas.{written_entries}
 use Rattle.ild_path_changes.proofs.Fields.{written-at}
-use Rattle.ild_path_changes.proofs.Lifting.{opened, written_is}
+use Rattle.ild_path_changes.proofs.Lifting.{written_is}
 use Rattle.ild_layer_piece.specs.Pieces.{StandsFor}
 use Rattle.ild_schema.specs.Clear.{AreNamesApart, ClearStruct}
 use Rattle.ild_schema.specs.Marks.{field_text}
@@ -88,7 +89,7 @@ module _ (rows : List Row) (p : Piece) (fs : List Field) (ds : List (Option Data
       → ((es : List (List ℕ × Data)) (y : Data) → StandsFor rows p (listpairs es) → value_at name es ≡ Some y → r ≡ Some (P.Pair (place_of name es)))
       → Lifts (λ w e. struct_lift form s fs ds g (Some a) (Some x) w e) r
   struct_pairs S.ListPairs name r form_is called stands made clear found =
-      let m = opened listpairs (field_entries fs ds) t made in
+      let m = map_some listpairs (field_entries fs ds) t made in
       let k = written_is fs ds m.0 m.1 in
       let there : value_at name m.0 ≡ Some a =
       (λ i. value_at (called i) (k.same i)) ∙ written-at left_out s fs ds g clear.apart is.named ∙ ap (written left_out g) is.held ∙ ap (λ b. cond b None (Some a)) is.written in

@@ -2,10 +2,10 @@
 use Rattle.std.proofs.Common.{◌≡◌, ℕ, List, Option, Some, refl, sym, ◌∙◌, ap, subst}
 use Rattle.std.specs.Prelude.{option_and_then, slice_get}
 use Rattle.std.proofs.lemmas.Option.{same_Some, none-some}
+use Rattle.ild_data.proofs.Options.{chain_some}
 use Rattle.ild_data.specs.Data as T
-use Rattle.ild_data.specs.Data.{Data, items_of, items_list, members_list}
+use Rattle.ild_data.specs.Data.{Data, items_of}
 use Rattle.ild_path_changes.proofs.Datas.{data_of, each, each_pair}
-use Rattle.ild_path_changes.proofs.Lifting.{chained}
 use Rattle.ild_path_changes.proofs.Represented.{in_holders}
 use Rattle.ild_path_changes.specs.Places.{each_field}
 use Rattle.ild_schema.specs.Slots.{form_of, plainly}
@@ -41,26 +41,26 @@ pub data Held (rows : List Row) (d : TypeDef) (h : Holder) (t : Data) : Type 0 w
 module _ (rows : List Row) (slot : Slot) (t : Data) where
   list_held : (d : TypeDef) (vs : Values) → data_of alone (Some d) (represented alone rows) slot (list_holder (Some d) vs) ≡ Some t → Held rows d (list_holder (Some d) vs) t
   list_held (D.List elem at) vs e =
-      let x = chained (λ ds. Some (T.list (items_of ds))) (each (represented alone rows elem) (values_list vs)) t e in
+      let x = chain_some (λ ds. Some (T.list (items_of ds))) (each (represented alone rows elem) (values_list vs)) t e in
       of_elements elem at (values_list vs) x.0 refl refl x.1 (sym (same_Some (T.list (items_of x.0)) t x.2))
   list_held d vs e = of_nothing (V.list vs) refl
 
   map_held : (d : TypeDef) (ps : Pairs) → data_of alone (Some d) (represented alone rows) slot (map_holder (Some d) ps) ≡ Some t → Held rows d (map_holder (Some d) ps) t
   map_held (D.Map k k_at elem at form) ps e =
-      let x = chained (λ es. map_form alone form (L.map es)) (each_pair (represented alone rows elem) (pairs_list ps)) t e in
+      let x = chain_some (λ es. map_form alone form (L.map es)) (each_pair (represented alone rows elem) (pairs_list ps)) t e in
       of_entries k k_at elem at form (pairs_list ps) x.0 refl refl x.1 x.2
   map_held d ps e = of_nothing (V.map ps) refl
 
   struct_held : (d : TypeDef) (os : Optionals) → data_of alone (Some d) (represented alone rows) slot (struct_holder (Some d) os) ≡ Some t → Held rows d (struct_holder (Some d) os) t
   struct_held (D.Struct r) os e =
-      let x = chained (λ ds. struct_form r.form r.fields ds) (each_field (represented alone rows) r.fields (optionals_list os)) t e in
+      let x = chain_some (λ ds. struct_form r.form r.fields ds) (each_field (represented alone rows) r.fields (optionals_list os)) t e in
       of_fields r (optionals_list os) x.0 refl refl x.1 x.2
   struct_held d os e = of_nothing (V.struct os) refl
 
   member_held : (u : UnionDef) (n : ℕ) (v : Value) → data_of alone (Some (D.Union u)) (represented alone rows) slot (member u.members n v) ≡ Some t → Held rows (D.Union u) (member u.members n v) t
   member_held u n v e =
-      let x = chained (λ (m : Member). option_and_then (λ y. union_form u.form u.members (n, y)) (represented alone rows (plainly m.ty) v)) (slice_get u.members n) t e in
-      let y = chained (λ z. union_form u.form u.members (n, z)) (represented alone rows (plainly (x.0).ty) v) t x.2 in
+      let x = chain_some (λ (m : Member). option_and_then (λ y. union_form u.form u.members (n, y)) (represented alone rows (plainly m.ty) v)) (slice_get u.members n) t e in
+      let y = chain_some (λ z. union_form u.form u.members (n, z)) (represented alone rows (plainly (x.0).ty) v) t x.2 in
       of_member u n v x.0 y.0 refl refl x.1 y.1 (sym (ap (option_and_then (member_form u.form y.0)) x.1) ∙ y.2)
 
   union_held : (d : TypeDef) (n : ℕ) (v : Value) → data_of alone (Some d) (represented alone rows) slot (union_holder (Some d) n v) ≡ Some t → Held rows d (union_holder (Some d) n v) t

@@ -6,6 +6,8 @@ use Rattle.std.specs.Option.{option_map_or}
 use Rattle.std.proofs.lemmas.Option.{same_Some, none-some}
 use Rattle.ild_cbor.specs.declared.piece.Piece.{Piece}
 use Rattle.ild_splice_changes.specs.TreeChange.{Located, nth, part_at, unchanged}
+use Rattle.ild_data.proofs.Gets.{got_below}
+use Rattle.ild_data.proofs.Options.{chain_some}
 use Rattle.ild_data.specs.Data as T
 use Rattle.ild_data.specs.Data.{Data, items_list, items_of, members_list}
 use Rattle.ild_data.specs.Key.{same_text, value_at}
@@ -13,7 +15,7 @@ use Rattle.ild_data.proofs.Lists.{items_list-items_of}
 use Rattle.ild_path_edits.proofs.HeldTyped.{held_is, inside_any, with_slot}
 use Rattle.ild_path_changes.proofs.Datas.{each}
 use Rattle.ild_path_changes.proofs.Each.{each-get, each_pair-at, joined}
-use Rattle.ild_path_changes.proofs.Lifting.{chained, field_data-each, place_same, present_field}
+use Rattle.ild_path_changes.proofs.Lifting.{field_data-each, place_same, present_field}
 use Rattle.ild_path_changes.proofs.Represented.{inside_data}
 use Rattle.ild_path_changes.specs.Lift.{lift_in, lift_map, lift_union, lift_within, map_lift, struct_lift, union_lift}
 use Rattle.ild_path_changes.specs.Places.{field_data, field_named, field_place, left_out, place_of}
@@ -44,7 +46,7 @@ use Rattle.ild_typed.specs.Layer as L
 use Rattle.ild_typed.specs.Represented.{represented}
 use Rattle.ild_typed.specs.Segment.{index_of, member_named, next_member, part, set_part}
 use Rattle.ild_path_steps.proofs.Holding.{Held, held_by, of_any, of_elements, of_entries, of_fields, of_member, of_nothing}
-use Rattle.ild_path_steps.proofs.Listing.{items_few, within_list}
+use Rattle.ild_path_steps.proofs.Listing.{items_few}
 use Rattle.ild_path_steps.specs.Steps.{FoundLead, IsField, LeadsEntry, LeadsField, LeadsMember, Lifts, LiftsAlways, LiftsEntry, LiftsField, LiftsMember, StepsTo, carried, is_left_out}
 use Rattle.ild_path_steps.specs.declared.steps.PartSteps.{PartSteps}
 use Rattle.ild_path_steps.specs.declared.steps.PartSteps.TheVariants as P
@@ -160,10 +162,10 @@ module _ (rows : List Row) (slot : Slot) (f : Value) (t d : Data) (q : InSlot) (
       by : Held rows def (seen rows (slot, f)) t → IsSomeAnd r (StepsTo rows (slot, f) s q)
       by (of_elements el pl vs ds e h a b) =
           let y = with_slot el (option_and_then (λ i. slice_get vs i) (index_of s)) q (there_in (elements el vs) h) in
-          let z = chained (λ i. slice_get vs i) (index_of s) y.0 y.1 in
+          let z = chain_some (λ i. slice_get vs i) (index_of s) y.0 y.1 in
           let few = items_few rows p (items_of ds) (subst (StandsFor rows p) b stands) in
           let same : length (items_list (items_of ds)) ≡ length vs = ap length (items_list-items_of ds) ∙ each-long (represented alone rows el) vs ds a in
-          let less = within_list vs z.0 y.0 z.2 in
+          let less = got_below vs z.0 y.0 z.2 in
           let steps : r ≡ Some (P.Item z.0) = given z.0 z.1 (omega (arith, few, less, same)) in
           at_holder (elements el vs) h
           (subst (λ o. IsSomeAnd o (Leads rows (form_of rows slot) (elements el vs) s q)) (sym steps) (λ c x w e p o. ap (λ o. option_map_or (λ i. lift_within (nth i ∷ []) e) o unchanged) z.1))
@@ -316,10 +318,10 @@ module _ (rows : List Row) (slot : Slot) (f : Value) (t d : Data) (q : InSlot) (
       by : Held rows def (seen rows (slot, f)) t → FoundLead r t d
       by (of_elements el pl vs ds e h a b) =
           let y = with_slot el (option_and_then (λ i. slice_get vs i) (index_of s)) q (in_holder (elements el vs) h) in
-          let z = chained (λ i. slice_get vs i) (index_of s) y.0 y.1 in
+          let z = chain_some (λ i. slice_get vs i) (index_of s) y.0 y.1 in
           let few = items_few rows p (items_of ds) (subst (StandsFor rows p) b stands) in
           let same : length (items_list (items_of ds)) ≡ length vs = ap length (items_list-items_of ds) ∙ each-long (represented alone rows el) vs ds a in
-          let less = within_list vs z.0 y.0 z.2 in
+          let less = got_below vs z.0 y.0 z.2 in
           let data_is : represented alone rows el y.0 ≡ Some d = (λ i. represented alone rows ((y.2 i).0) ((y.2 i).1)) ∙ partly in
           let got : slice_get (items_list (items_of ds)) z.0 ≡ Some d = ap (λ xs. slice_get xs z.0) (items_list-items_of ds) ∙ each-get (represented alone rows el) vs ds z.0 y.0 d a z.2 data_is in
           subst (λ o. FoundLead o t d) (sym (given z.0 z.1 (omega (arith, few, less, same)))) (ap (part_at (nth z.0 ∷ [])) b ∙ ap (option_and_then (λ e. Some e)) got)

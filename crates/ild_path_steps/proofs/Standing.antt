@@ -4,16 +4,19 @@ use Rattle.std.specs.Prelude.{is_none, option_and_then}
 use Rattle.std.proofs.lemmas.Option.{same_Some, none-some}
 use Rattle.ild_splice_changes.proofs.Maps.{own_text, put-other}
 use Rattle.ild_splice_changes.specs.TreeChange.{key, nth, part_at}
+use Rattle.ild_typed.proofs.Unions.{only_map_data}
+use Rattle.ild_data.proofs.Gets.{got_below}
+use Rattle.ild_data.proofs.Options.{chain_some, map_some}
 use Rattle.ild_data.specs.Data as T
 use Rattle.ild_data.specs.Data.{Data, items_list, items_of, members_list}
 use Rattle.ild_data.specs.Key.{put, value_at}
-use Rattle.ild_data.proofs.Lists.{items_list-items_of, members_of-members_list}
+use Rattle.ild_data.proofs.Lists.{items_list-items_of}
 use Rattle.ild_cbor.specs.Scalar.{kind_of as piece_kind}
 use Rattle.ild_cbor.specs.declared.kind.Kind.TheVariants as K
 use Rattle.ild_cbor.specs.declared.piece.Piece.{Piece}
 use Rattle.ild_path_edits.proofs.HeldTyped.{inside_any}
 use Rattle.ild_path_changes.proofs.Fields.{risen-at, written-at}
-use Rattle.ild_path_changes.proofs.Lifting.{chained, key_there, opened, pair_there, tuple_item, written_is}
+use Rattle.ild_path_changes.proofs.Lifting.{key_there, pair_there, tuple_item, written_is, with_mark, if_some}
 use Rattle.ild_path_changes.proofs.Others.{put_lasts}
 use Rattle.ild_path_changes.specs.Pairs.{pair_if}
 use Rattle.ild_path_changes.specs.Places.{field_place, left_out, place_of, written}
@@ -44,7 +47,7 @@ use Rattle.ild_typed.specs.Layer as L
 use Rattle.ild_typed.specs.Segment.{index_of, part}
 use Rattle.ild_typed.specs.Strings.{in_key_order, listpairs, map_data, members_in}
 use Rattle.ild_path_steps.proofs.Fielding.{got}
-use Rattle.ild_path_steps.proofs.Listing.{items_few, within_list}
+use Rattle.ild_path_steps.proofs.Listing.{items_few}
 use Rattle.ild_path_steps.specs.Steps.{FoundLead, IsBut, IsField}
 use Rattle.ild_path_steps.specs.declared.steps.PartSteps.{PartSteps}
 use Rattle.ild_path_steps.specs.declared.steps.PartSteps.TheVariants as P
@@ -68,9 +71,9 @@ pub list_inside : (rows : List Row) (p : Piece) (t d : Data) (s : List ℕ) (r :
     → ((i : ℕ) → index_of s ≡ Some i → i < 2 ^ 64 → r ≡ Some (P.Item i)) → FoundLead r t d
 list_inside rows p (T.list ds) d s r stands is there found =
     let x = inside_any (option_and_then (λ i. slice_get (items_list ds) i) (index_of s)) (anything, of_any d) there in
-    let y = chained (λ i. slice_get (items_list ds) i) (index_of s) x.0 x.1 in
+    let y = chain_some (λ i. slice_get (items_list ds) i) (index_of s) x.0 x.1 in
     let few = items_few rows p ds stands in
-    let less = within_list (items_list ds) y.0 x.0 y.2 in
+    let less = got_below (items_list ds) y.0 x.0 y.2 in
     subst (λ o. FoundLead o (T.list ds) d) (sym (found y.0 y.1 (omega (arith, few, less)))) (ap (option_and_then (λ e. Some e)) y.2 ∙ ap Some (same_inside x.0 d (anything, of_any d) x.2 refl))
 list_inside rows p T.null d s r stands is there found = absurd cc
 list_inside rows p (T.boolean b) d s r stands is there found = absurd cc
@@ -116,7 +119,7 @@ module _ (rows : List Row) (p : Piece) (es : List (List ℕ × Data)) (t x : Dat
 module _ (fs : List Field) (ds : List (Option Data)) (t a : Data) (s : List ℕ) (number : ℕ) (g : Field) (is : IsField fs s number ds g a) where
   pub field_leads : (form : StructForm) (name : List ℕ) → S.Map ≡ form → name ≡ field_text g → struct_form form fs ds ≡ Some t → ClearStruct form fs → part_at (key name ∷ []) t ≡ Some a
   field_leads S.Map name form_is called made clear =
-      let x = opened (λ es. map_data (in_key_order es)) (field_entries fs ds) t made in
+      let x = map_some (λ es. map_data (in_key_order es)) (field_entries fs ds) t made in
       let w = written_is fs ds x.0 x.1 in
       let there : value_at name (in_key_order x.0) ≡ Some a =
       risen-at x.0 name ∙ (λ i. value_at (called i) (w.same i)) ∙ written-at left_out s fs ds g clear.apart is.named ∙ ap (written left_out g) is.held ∙ ap (λ b. cond b None (Some a)) is.written in
@@ -128,7 +131,7 @@ module _ (fs : List Field) (ds : List (Option Data)) (t a : Data) (s : List ℕ)
 
   pub tuple_leads : (form : StructForm) → S.Tuple ≡ form → struct_form form fs ds ≡ Some t → part_at (nth number ∷ []) t ≡ Some a
   tuple_leads S.Tuple form_is made =
-      let x = opened (λ xs. T.list (items_of xs)) (tuple_items fs ds) t made in
+      let x = map_some (λ xs. T.list (items_of xs)) (tuple_items fs ds) t made in
       let i = tuple_item s fs ds x.0 a x.1 is.held in
       ap (λ (n : ℕ). part_at (nth n ∷ []) t) is.place
       ∙ ap (part_at (nth (field_place s fs) ∷ [])) (sym x.2) ∙ ap (λ o. option_and_then (λ e. part_at [] e) o) (ap (λ ys. slice_get ys (field_place s fs)) (items_list-items_of x.0) ∙ i.there)
@@ -140,7 +143,7 @@ module _ (fs : List Field) (ds : List (Option Data)) (t a : Data) (s : List ℕ)
   pub field_pair_leads : (rows : List Row) (p : Piece) (form : StructForm) (name : List ℕ) (r : Option PartSteps) → S.ListPairs ≡ form → name ≡ field_text g → StandsFor rows p t → struct_form form fs ds ≡ Some t → ClearStruct form fs
       → ((es : List (List ℕ × Data)) (y : Data) → StandsFor rows p (listpairs es) → value_at name es ≡ Some y → r ≡ Some (P.Pair (place_of name es))) → FoundLead r t a
   field_pair_leads rows p S.ListPairs name r form_is called stands made clear found =
-      let m = opened listpairs (field_entries fs ds) t made in
+      let m = map_some listpairs (field_entries fs ds) t made in
       let k = written_is fs ds m.0 m.1 in
       let there : value_at name m.0 ≡ Some a =
       (λ i. value_at (called i) (k.same i)) ∙ written-at left_out s fs ds g clear.apart is.named ∙ ap (written left_out g) is.held ∙ ap (λ b. cond b None (Some a)) is.written in
@@ -159,13 +162,6 @@ pub no_text : (mark : Mark) → (mark ≡ M.Bare) ⊎ ((w : KindWord) × (mark �
 no_text mark (inl e) = ap mark_text e
 no_text mark (inr (w, e)) = ap mark_text e
 
-of_mark : (F : List ℕ → Option Data) (o : Option (List ℕ)) (name : List ℕ) (t : Data) → o ≡ Some name → option_and_then F o ≡ Some t → F name ≡ Some t
-of_mark F o name t e h = sym (ap (option_and_then F) e) ∙ h
-
-if_some : {A : Type 0} (b : Bool) (x y : A) → cond b (Some x) None ≡ Some y → x ≡ y
-if_some true x y h = same_Some x y h
-if_some false x y h = absurd (none-some y h)
-
 is_there : {A : Type 0} (b : Bool) (x y : A) → cond b (Some x) None ≡ Some y → b ≡ true
 is_there true x y h = refl
 is_there false x y h = absurd (none-some y h)
@@ -173,16 +169,6 @@ is_there false x y h = absurd (none-some y h)
 none_is : (o : Option Data) → is_none o ≡ true → o ≡ None
 none_is None h = refl
 none_is (Some d) h = absurd cc
-
-members_there : (d : Data) (ms : List (List ℕ × Data)) → members_in d ≡ Some ms → d ≡ map_data ms
-members_there (T.map xs) ms h = ap T.map (sym (members_of-members_list xs)) ∙ ap map_data (same_Some (members_list xs) ms h)
-members_there T.null ms h = absurd (none-some ms h)
-members_there (T.boolean b) ms h = absurd (none-some ms h)
-members_there (T.integer n) ms h = absurd (none-some ms h)
-members_there (T.text s) ms h = absurd (none-some ms h)
-members_there (T.bytes s) ms h = absurd (none-some ms h)
-members_there (T.list ds) ms h = absurd (none-some ms h)
-members_there (T.link s) ms h = absurd (none-some ms h)
 
 kinded : (d t : Data) (o : Option KindWord) → option_and_then (λ k. cond (same_kind k (kind_word_of d)) (Some d) None) o ≡ Some t → t ≡ d
 kinded d t None h = absurd (none-some t h)
@@ -192,7 +178,7 @@ module _ (m : Member) (d t : Data) where
   pub keyed_leads : (form : UnionForm) (name : List ℕ) → form ≡ U.Keyed → mark_text m.mark ≡ Some name → member_form form d m ≡ Some t → part_at (key name ∷ []) t ≡ Some d
   keyed_leads form name is mark made =
       let made_in : member_form U.Keyed d m ≡ Some t = sym (ap (λ f. member_form f d m) is) ∙ made in
-      let x = of_mark (marked_form U.Keyed d) (mark_text m.mark) name t mark made_in in
+      let x = with_mark (marked_form U.Keyed d) (mark_text m.mark) name t mark made_in in
       ap (part_at (key name ∷ [])) (sym (same_Some (map_data ((name, d) ∷ [])) t x)) ∙ key_there name ((name, d) ∷ []) d (ap (λ b. cond b (Some d) None) (own_text name))
 
   pub no_mark : (form : UnionForm) → form ≡ U.Keyed → mark_text m.mark ≡ None → member_form form d m ≡ Some t → ⊥
@@ -203,7 +189,7 @@ module _ (m : Member) (d t : Data) where
 
   pub envelope_leads : (form : UnionForm) (k content called : List ℕ) → form ≡ U.Envelope k content → called ≡ content → member_form form d m ≡ Some t → KeysApart form → part_at (key called ∷ []) t ≡ Some d
   envelope_leads form k content called is same made apart =
-      let a = chained (marked_form (U.Envelope k content) d) (mark_text m.mark) t (sym (ap (λ f. member_form f d m) is) ∙ made) in
+      let a = chain_some (marked_form (U.Envelope k content) d) (mark_text m.mark) t (sym (ap (λ f. member_form f d m) is) ∙ made) in
       ap (λ j. part_at (key j ∷ []) t) same
       ∙ ap (part_at (key content ∷ [])) (sym (same_Some (map_data (put k (T.text a.0) ((content, d) ∷ []))) t a.2))
       ∙ key_there content (put k (T.text a.0) ((content, d) ∷ [])) d
@@ -211,12 +197,12 @@ module _ (m : Member) (d t : Data) where
 
   pub inline_leads : (form : UnionForm) (k : _) → form ≡ U.Inline k → member_form form d m ≡ Some t → IsBut k t d
   inline_leads form k is made =
-      let a = chained (marked_form (U.Inline k) d) (mark_text m.mark) t (sym (ap (λ f. member_form f d m) is) ∙ made) in
-      let b = chained (inlined k a.0) (members_in d) t a.2 in
+      let a = chain_some (marked_form (U.Inline k) d) (mark_text m.mark) t (sym (ap (λ f. member_form f d m) is) ∙ made) in
+      let b = chain_some (inlined k a.0) (members_in d) t a.2 in
       record {
         name = a.0;
         entries = b.0;
-        is = members_there d b.0 b.1;
+        is = only_map_data d b.0 b.1;
         whole = sym (if_some (is_none (value_at k b.0)) (map_data (put k (T.text a.0) b.0)) t b.2);
         none = none_is (value_at k b.0) (is_there (is_none (value_at k b.0)) (map_data (put k (T.text a.0) b.0)) t b.2);
       }

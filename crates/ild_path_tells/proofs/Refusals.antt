@@ -4,7 +4,7 @@ use Rattle.std.specs.Prelude.{option_and_then}
 use Rattle.std.specs.Option.{option_map_or}
 use Rattle.std.proofs.lemmas.Option.{none-some}
 use Rattle.ild_data.specs.Key.{same_text, value_at}
-use Rattle.ild_path_edits.proofs.Stops.{stops_tell}
+use Rattle.ild_path_edits.proofs.Stops.{stops_tell, err_same}
 use Rattle.ild_path_edits.specs.Edit.{del_in, unless_kept}
 use Rattle.ild_path_edits.specs.Stop.{fault_by, may_delete, part_along, stopped}
 use Rattle.ild_path_edits.specs.Table.{field_kept, if_present, never, refusal_to_delete, slot_to_insert, slot_to_set, unless_there}
@@ -102,17 +102,14 @@ none_comes slot_for stop last k (Some l) fault = by (slot_for l.0 l.1) refl wher
   by None e = e
   by (Some u) e = absurd (none-some k (sym (allowed_by stop last (λ h t. is_some (slot_for h t)) l (ap is_some e)) ∙ fault))
 
-same_refusal : (a b : No) → ◌≡◌ {A = Result Value No} (Err a) (Err b) → a ≡ b
-same_refusal a b e = cc
-
 kept_by : (c : Value) (o : Option (Holder × List ℕ)) → del_in c o ≡ Err N.Mismatch → option_map_or (λ (l : Holder × List ℕ). refusal_to_delete l.0 l.1) o (Some N.Path) ≡ Some N.Mismatch
-kept_by c None e = ap (λ (n : No). Some n) (same_refusal N.Path N.Mismatch e)
+kept_by c None e = ap (λ (n : No). Some n) (err_same N.Path N.Mismatch e)
 kept_by c (Some l) e = by (refusal_to_delete l.0 l.1) refl where
   by : (r : Option No) → refusal_to_delete l.0 l.1 ≡ r → refusal_to_delete l.0 l.1 ≡ Some N.Mismatch
   by None is = absurd (not_err (sym (ap (unless_kept c) is) ∙ e)) where
     not_err : ◌≡◌ {A = Result Value No} (Ok c) (Err N.Mismatch) → ⊥
     not_err h = absurd cc
-  by (Some n) is = is ∙ ap (λ (n : No). Some n) (same_refusal n N.Mismatch (sym (ap (unless_kept c) is) ∙ e))
+  by (Some n) is = is ∙ ap (λ (n : No). Some n) (err_same n N.Mismatch (sym (ap (unless_kept c) is) ∙ e))
 
 -- ---- at the end of a path
 

@@ -4,12 +4,13 @@ use Rattle.std.specs.List.{AllByRecursion, list_all}
 use Rattle.std.specs.Prelude.{slice_set, insert, remove}
 use Rattle.std.proofs.lemmas.List.{map-append, map-set, take-map, drop-map, drop_all, length-map}
 use Rattle.std.proofs.lemmas.Option.{same_Some, none-some}
+use Rattle.std.proofs.lemmas.Bool.{and_parts}
 use Rattle.ild_schema.specs.Joins.{joined, IsJoin, IsPair, IsPairs, pair_text}
 use Rattle.ild_text.specs.Cut.{cut, halves}
 use Rattle.ild_text.specs.Pairs.{entries}
 use Rattle.ild_typed.specs.JoinLaws.{JoinsAreJoins, PairsArePairs}
 use Rattle.ild_typed.specs.Texts.{is_parted, join, join_pairs}
-use Rattle.ild_typed.proofs.Basics.{if_from, both_true}
+use Rattle.ild_typed.proofs.Basics.{if_from}
 use Rattle.ild_path_text.specs.Changed.{value_set}
 use Rattle.ild_path_text.specs.Left.{parts_left, between, tail}
 use Rattle.ild_path_text.proofs.Cutting.{cut_is, halves_pair}
@@ -112,7 +113,7 @@ value_all : (inner new : List ℕ) (ps : List (List ℕ × List ℕ)) (place : �
 value_all inner new [] place some all = refl
 value_all inner new (p ∷ ps) zero some all = ap (λ b. b && list_all (is_parted inner) ps) (parted_alike inner p.0 new p.1 some) ∙ all
 value_all inner new (p ∷ ps) (suc n) some all =
-    let both = both_true (is_parted inner p) (list_all (is_parted inner) ps) all in
+    let both = and_parts (is_parted inner p) (list_all (is_parted inner) ps) all in
     ap (λ b. b && list_all (is_parted inner) (value_set n new ps)) both.0 ∙ value_all inner new ps n some both.1
 
 and_true : (b : Bool) → (b && true) ≡ b
@@ -124,15 +125,15 @@ insert_all f [] zero x all = and_true (f x)
 insert_all f [] (suc n) x all = and_true (f x)
 insert_all f (y ∷ ys) zero x all = ap (λ b. f x && b) all ∙ and_true (f x)
 insert_all f (y ∷ ys) (suc n) x all =
-    let both = both_true (f y) (list_all f ys) all in
+    let both = and_parts (f y) (list_all f ys) all in
     ap (λ b. b && list_all f (insert ys n x)) both.0 ∙ insert_all f ys n x both.1
 
 remove_all : {A : Type 0} (f : A → Bool) (xs : List A) (n : ℕ) → list_all f xs ≡ true → list_all f (remove xs n) ≡ true
 remove_all f [] zero all = refl
 remove_all f [] (suc n) all = refl
-remove_all f (y ∷ ys) zero all = (both_true (f y) (list_all f ys) all).1
+remove_all f (y ∷ ys) zero all = (and_parts (f y) (list_all f ys) all).1
 remove_all f (y ∷ ys) (suc n) all =
-    let both = both_true (f y) (list_all f ys) all in
+    let both = and_parts (f y) (list_all f ys) all in
     ap (λ b. b && list_all f (remove ys n)) both.0 ∙ remove_all f ys n both.1
 
 -- ---- how many pairs there are then

@@ -1,24 +1,16 @@
 -- A text is cut into its parts, and these are joined to it again.
 use Rattle.std.proofs.Common.{◌≡◌, inr, ℕ, zero, suc, ◌+◌, ◌-◌, ◌<◌, ◌≤◌, Bool, true, false, cond, List, [], ◌∷◌, ◌++◌, Some, length, take, drop, refl, ap, sym, ◌∙◌, subst, arith}
 use Rattle.std.proofs.lemmas.List.{drop_at, drop-drop}
+use Rattle.ild_text.proofs.ByCount.{behind_both}
 use Rattle.ild_schema.specs.Joins.{Occurs, joined, IsJoin, IsPair, pair_text}
 use Rattle.ild_text.specs.Cut.{begins, onto, cut_behind, cut, halves}
 use Rattle.ild_text.proofs.Apart.{joint_behind, further_on, occurs_behind}
 use Rattle.ild_text.proofs.Begins.{begins_here, occurs_split}
-use Rattle.ild_text.proofs.Cuts.{cut_some, length-onto}
+use Rattle.ild_text.proofs.Cuts.{cut_some, length-onto, joined_more, joined_onto}
 use Rattle.ild_text.proofs.Firsts.{first_part, only_part}
 use Rattle.ild_text.proofs.Steps.{halves_first, halves_none}
 
 -- ---- the parts of a cut
-
-joined_more : (d p : List ℕ) (ps : List (List ℕ)) → 1 ≤ length ps → joined d (p ∷ ps) ≡ p ++ (d ++ joined d ps)
-joined_more d p [] one = absurd (omega (arith, one))
-joined_more d p (q ∷ ps) one = refl
-
-joined_onto : (d : List ℕ) (b : ℕ) (ps : List (List ℕ)) → 1 ≤ length ps → joined d (onto b ps) ≡ b ∷ joined d ps
-joined_onto d b [] one = absurd (omega (arith, one))
-joined_onto d b (p ∷ []) one = refl
-joined_onto d b (p ∷ q ∷ ps) one = refl
 
 one_less : (d : List ℕ) → 0 < length d → suc (length d - 1) ≡ 0 + length d
 one_less d some = omega (arith, some)
@@ -50,11 +42,6 @@ cut_few d (b ∷ bs) (suc k) = let h = cut_few d bs k in omega (arith, h)
 cut_few d (b ∷ bs) zero = few_chosen (begins d (b ∷ bs)) b (length bs) (cut_behind d (length d - 1) bs) (cut_behind d 0 bs) (cut_few d bs (length d - 1)) (cut_few d bs 0)
 
 -- ---- the parts of a join
-
-behind_both : (d p r : List ℕ) (i : ℕ) → drop (length p + length d + i) (p ++ (d ++ r)) ≡ drop i r
-behind_both d p r i =
-    sym (drop-drop i (length p + length d) (p ++ (d ++ r)))
-    ∙ ap (drop i) (sym (drop-drop (length d) (length p) (p ++ (d ++ r))) ∙ ap (drop (length d)) (drop_at p (d ++ r) (length p) refl) ∙ drop_at d r (length d) refl)
 
 behind_one : (d p r : List ℕ) → drop (length p + length d) (p ++ (d ++ r)) ≡ r
 behind_one d p r = sym (drop-drop (length d) (length p) (p ++ (d ++ r))) ∙ ap (drop (length d)) (drop_at p (d ++ r) (length p) refl) ∙ drop_at d r (length d) refl

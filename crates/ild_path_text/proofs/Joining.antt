@@ -1,12 +1,12 @@
 -- What splits and searches say of joined texts.
-use Rattle.std.proofs.Common.{◌≡◌, ℕ, zero, suc, ◌+◌, ◌<◌, ◌≤◌, List, [], ◌∷◌, length, take, drop, Bool, true, false, ◌&&◌, cond, nat_eq, Option, Some, None, refl, sym, ◌∙◌, ap, subst, arith, zero-add, add-zero}
+use Rattle.std.proofs.Common.{◌≡◌, ℕ, zero, suc, ◌+◌, ◌<◌, ◌≤◌, List, [], ◌∷◌, length, take, drop, Bool, true, false, cond, nat_eq, Option, Some, None, refl, sym, ◌∙◌, ap, subst, arith, zero-add, add-zero}
 use Rattle.std.proofs.lemmas.Bool.Decides.{nat_tests}
+use Rattle.ild_typed.proofs.JoinLaws.{begins_take, take_begins}
 use Rattle.ild_schema.specs.Joins.{Occurs, joined, pair_text, IsJoin, JoinsByCount}
 use Rattle.ild_schema.specs.Prefixes.{begins}
 use Rattle.ild_typed.specs.JoinLaws.{JoinsAreJoins}
 use Rattle.ild_typed.specs.Texts.{places, is_first, is_parted, join}
-use Rattle.ild_typed.proofs.Basics.{both_true}
-use Rattle.ild_typed.proofs.Joints.{join_says}
+use Rattle.ild_typed.proofs.Joints.{join_says, first_same}
 use Rattle.ild_text.specs.inside.Find.{IsNext}
 
 false_true : false ≡ true → ⊥
@@ -41,16 +41,6 @@ joined_empty delim text (p ∷ ps) n whole count none = absurd (omega (arith, co
 
 -- ---- the first place
 
-begins_take : (d s : List ℕ) → begins d s ≡ true → take (length d) s ≡ d
-begins_take [] s e = refl
-begins_take (c ∷ cs) [] e = absurd cc
-begins_take (c ∷ cs) (x ∷ s) e =
-    let both = both_true (nat_eq c x) (begins cs s) e in
-    ap (λ y. y ∷ take (length cs) s) (sym (same c x both.0)) ∙ ap (λ ys. c ∷ ys) (begins_take cs s both.1)
-  where
-    same : (m n : ℕ) → nat_eq m n ≡ true → m ≡ n
-    same m n h = grind (arith, nat_tests, h)
-
 abbrev head_of : List ℕ → ℕ
 head_of [] = 0
 head_of (x ∷ xs) = x
@@ -58,16 +48,6 @@ head_of (x ∷ xs) = x
 abbrev tail_of : List ℕ → List ℕ
 tail_of [] = []
 tail_of (x ∷ xs) = xs
-
-take_begins : (d s : List ℕ) → take (length d) s ≡ d → begins d s ≡ true
-take_begins [] s e = refl
-take_begins (c ∷ cs) [] e = absurd cc
-take_begins (c ∷ cs) (x ∷ s) e =
-    let same : nat_eq c x ≡ true = self c x (sym (ap head_of e)) in
-    ap (λ b. b && begins cs s) same ∙ take_begins cs s (ap tail_of e)
-  where
-    self : (m n : ℕ) → m ≡ n → nat_eq m n ≡ true
-    self m n h = grind (arith, nat_tests, h)
 
 not_begins : (d s : List ℕ) → (take (length d) s ≡ d → ⊥) → begins d s ≡ false
 not_begins d s never = by (begins d s) refl
@@ -98,10 +78,6 @@ no_place : (d : List ℕ) (m : ℕ) (s : List ℕ) → ((k : ℕ) → begins d (
 no_place d m [] none = refl
 no_place d m (c ∷ s) none = ap (λ b. cond b (m ∷ places (m + 1) d s) (places (m + 1) d s)) (none 0) ∙ no_place d (m + 1) s (λ k. none (suc k))
 
-one_first : (m n : ℕ) (ns : List ℕ) → is_first m ns ≡ true → is_first n ns ≡ true → m ≡ n
-one_first m n [] e k = absurd cc
-one_first m n (p ∷ ps) e k = grind (arith, nat_tests, e, k)
-
 -- what a search finds
 pub parted_found : (d t : List ℕ) (at : ℕ) → 0 < length d → IsNext d t 0 (0 + at) → (p : List ℕ × List ℕ) (n : ℕ) → pair_text d p ≡ t → length p.0 ≡ n → nat_eq at n ≡ is_parted d p
 parted_found d t at some next p n whole len = by (nat_eq at n) refl
@@ -122,7 +98,7 @@ parted_found d t at some next p n whole len = by (nat_eq at n) refl
         apart e h = grind (arith, nat_tests, e, h)
 
         other : (c : Bool) → is_parted d p ≡ c → false ≡ c
-        other true told = absurd (apart (one_first at (length p.0) (places 0 d (pair_text d p)) first told ∙ len) is)
+        other true told = absurd (apart (first_same at (length p.0) (places 0 d (pair_text d p)) first told ∙ len) is)
         other false told = refl
 
 pub parted_none : (d t : List ℕ) → ((at : ℕ) → 0 ≤ at → Occurs d t at → ⊥) → (p : List ℕ × List ℕ) → pair_text d p ≡ t → false ≡ is_parted d p

@@ -1,7 +1,7 @@
 -- Whether a key ends at the first delimiter behind it: the value says nothing of it.
 use Rattle.std.proofs.Common.{◌≡◌, ℕ, ◌+◌, ◌<◌, ◌≤◌, Bool, true, false, cond, ◌&&◌, List, [], ◌∷◌, ◌++◌, length, refl, ap, sym, ◌∙◌, arith, append-nil, append_assoc, length-append}
 use Rattle.std.specs.Prelude.{nat_eq}
-use Rattle.std.proofs.lemmas.Bool.{eq-eqb}
+use Rattle.ild_typed.proofs.CleanTexts.{begins_itself}
 use Rattle.ild_schema.specs.Joins.{pair_text}
 use Rattle.ild_schema.specs.Prefixes.{begins}
 use Rattle.ild_typed.specs.Texts.{places, is_first, is_parted}
@@ -11,10 +11,6 @@ begins_front : (d xs ys zs : List ℕ) → length d ≤ length xs → begins d (
 begins_front [] xs ys zs le = refl
 begins_front (c ∷ d) [] ys zs le = absurd (omega (arith, le))
 begins_front (c ∷ d) (x ∷ xs) ys zs le = ap (λ b. nat_eq c x && b) (begins_front d xs ys zs (omega (arith, le)))
-
-begins_itself : (d s : List ℕ) → begins d (d ++ s) ≡ true
-begins_itself [] s = refl
-begins_itself (c ∷ d) s = ap (λ b. b && begins d (d ++ s)) (eq-eqb c c refl) ∙ begins_itself d s
 
 -- a place at which the delimiter stands is the first
 at_once : (n m : ℕ) (d s : List ℕ) → 0 < length s → begins d s ≡ true → is_first n (places m d s) ≡ nat_eq n m

@@ -1,8 +1,9 @@
 -- No holder around a part without a text is a text.
 use Rattle.std.proofs.Common.{◌≡◌, ℕ, List, [], ◌∷◌, Bool, true, false, Option, Some, None, refl, sym, ◌∙◌, ap, subst}
-use Rattle.std.specs.Prelude.{IsUtf8, Result, Ok, option_and_then}
+use Rattle.std.specs.Prelude.{IsUtf8, Ok, option_and_then}
 use Rattle.std.specs.List.{AllByRecursion}
 use Rattle.std.proofs.lemmas.Option.{none-some, same_Some}
+use Rattle.ild_path_edits.proofs.KeepTyped.{ok_same}
 use Rattle.ild_build.specs.TextRep.{text_rep}
 use Rattle.ild_path_edits.proofs.LayerTesting.{judged_along}
 use Rattle.ild_path_edits.proofs.Paths.{inserted_typed, last_text, may_stand, placed_typed, set_typed}
@@ -22,7 +23,6 @@ use Rattle.ild_schema.specs.Slots.{form_of}
 use Rattle.ild_schema.specs.Value.{Value}
 use Rattle.ild_schema.specs.declared.number.Slot.{Slot}
 use Rattle.ild_schema.specs.declared.row.Row.{Row}
-use Rattle.ild_script.specs.declared.reply.No.{No}
 use Rattle.ild_typed.proofs.Judging.{tree_sound}
 use Rattle.ild_typed.specs.At.{InSlot, changed_in, last_holder, seen}
 use Rattle.ild_typed.specs.Holder.{Holder, any_elements, any_entries, elements, entries, fields, member, nothing, value_of}
@@ -103,9 +103,6 @@ module _ (h : List ℕ → List ℕ) (rows : List Row) (is_key : ℕ → List �
 
 told : (g : Holder × List ℕ → Option Slot) (o : Option (Holder × List ℕ)) (l : Holder × List ℕ) (slot : Slot) → o ≡ Some l → option_and_then g o ≡ Some slot → g l ≡ Some slot
 told g o l slot e there = sym (ap (option_and_then g) e) ∙ there
-
-ok_same : (v w : Value) → ◌≡◌ {A = Result Value No} (Ok v) (Ok w) → v ≡ w
-ok_same v w e = cc
 
 module _ (h : List ℕ → List ℕ) (rows : List Row) (is_key : ℕ → List ℕ → Bool) (schema : IsSchema rows) (keys : TestsKeys rows is_key) (limit : ℕ) (p : InSlot) (whole : IsSound h rows limit p) where
   it : OfType rows p.0 p.1

@@ -1,14 +1,17 @@
 -- The parts of a type in text form have types in text form.
-use Rattle.std.proofs.Common.{◌≡◌, ℕ, List, [], ◌∷◌, Bool, true, false, ◌||◌, cond, Option, Some, None, option_map, refl, sym, ◌∙◌, ap, subst}
+use Rattle.std.proofs.Common.{◌≡◌, ℕ, List, [], ◌∷◌, Bool, true, false, cond, Option, Some, None, option_map, refl, sym, ◌∙◌, ap, subst}
 use Rattle.std.specs.List.{AllByRecursion, list_any}
 use Rattle.std.proofs.lemmas.Option.{same_Some, none-some}
+use Rattle.std.proofs.lemmas.Bool.{or_left, or_right}
+use Rattle.ild_typed.proofs.Making.{itself}
+use Rattle.ild_data.proofs.AllOf.{all_at}
 use Rattle.ild_data.specs.Key.{same_text}
 use Rattle.ild_path_edits.specs.Table.{declared_slot, slot_to_insert, slot_to_set}
 use Rattle.ild_path_judged.proofs.Last.{HeldBy}
 use Rattle.ild_path_room.specs.Room.{Coming, by_insert, by_set, slot_for}
 use Rattle.ild_schema.proofs.Legibly.{legible}
 use Rattle.ild_schema.specs.Copies.{base}
-use Rattle.ild_schema.specs.DataKinds.{is_marked, kind_in, map_kind, same_kind, struct_kind, union_has}
+use Rattle.ild_schema.specs.DataKinds.{is_marked, kind_in, map_kind, struct_kind, union_has}
 use Rattle.ild_schema.specs.Made.{IsTextSlot, MadeMap, MadeMember, MadeStruct, MadeType, HasOnly}
 use Rattle.ild_schema.specs.Marks.{mark_kind}
 use Rattle.ild_schema.specs.Slots.{form_of, plainly}
@@ -28,7 +31,6 @@ use Rattle.ild_schema.specs.declared.def.UnionForm.{UnionForm}
 use Rattle.ild_schema.specs.declared.def.UnionForm.TheVariants as U
 use Rattle.ild_schema.specs.declared.number.Slot.{Slot}
 use Rattle.ild_schema.specs.declared.row.Row.{Row}
-use Rattle.ild_typed.proofs.Treed.{all_at}
 use Rattle.ild_typed.specs.Hamt.{alone}
 use Rattle.ild_typed.specs.Holder.{Holder, any_elements, any_entries, elements, entries, fields, member, nothing}
 use Rattle.ild_typed.specs.Judged.{breaks, map_breaks, struct_breaks}
@@ -51,23 +53,6 @@ HasTexts rows d = Unit {0}
 -- of kind text alone
 abbrev pub IsText : Option TypeDef → Type 0
 IsText F = (k : KindWord) → kind_in F k ≡ true → k ≡ K.Text
-
-pub itself : (k : KindWord) → same_kind k k ≡ true
-itself K.Null = refl
-itself K.Bool = refl
-itself K.Int = refl
-itself K.Text = refl
-itself K.Bytes = refl
-itself K.List = refl
-itself K.Map = refl
-itself K.Link = refl
-
-or_left : (a b : Bool) → a ≡ true → (a || b) ≡ true
-or_left a b e = ap (λ c. c || b) e
-
-or_right : (a b : Bool) → b ≡ true → (a || b) ≡ true
-or_right true b e = refl
-or_right false b e = e
 
 module _ (rows : List Row) where
   -- ---- the types of parts

@@ -1,12 +1,14 @@
 -- The values of a type in text form have texts, where they break no delimiter.
-use Rattle.std.proofs.Common.{◌≡◌, ℕ, List, [], ◌∷◌, slice_get, Bool, true, false, ◌&&◌, Option, Some, option_map, refl, ◌∙◌, ap, subst}
+use Rattle.std.proofs.Common.{◌≡◌, ℕ, List, [], ◌∷◌, slice_get, Bool, true, false, Option, Some, option_map, refl, ◌∙◌, ap, subst}
 use Rattle.std.specs.Prelude.{option_and_then}
 use Rattle.std.specs.List.{AllByRecursion}
 use Rattle.std.specs.Option.{option_map_or}
+use Rattle.std.proofs.lemmas.Bool.{and_from, or_from}
+use Rattle.ild_path_edits.proofs.LayerTesting.{slot_in}
+use Rattle.ild_data.proofs.AllOf.{all_at}
 use Rattle.ild_build.specs.TextRep.{text_rep}
 use Rattle.ild_path_edits.specs.Along.{IsFree}
-use Rattle.ild_path_judged.proofs.Parts.{both_false}
-use Rattle.ild_path_textless.proofs.Slots.{HasTexts, IsText, itself, text_slots}
+use Rattle.ild_path_textless.proofs.Slots.{HasTexts, IsText, text_slots}
 use Rattle.ild_schema.proofs.Legibly.{legible}
 use Rattle.ild_schema.specs.DataKinds.{kind_in, map_kind, struct_kind}
 use Rattle.ild_schema.specs.Made.{IsTextSlot}
@@ -27,9 +29,8 @@ use Rattle.ild_schema.specs.declared.def.UnionDef.{UnionDef}
 use Rattle.ild_schema.specs.declared.number.Slot.{Slot}
 use Rattle.ild_schema.specs.declared.row.Row.{Row}
 use Rattle.ild_typed.proofs.Flat.{flat_alone, flat_text}
-use Rattle.ild_typed.proofs.Making.{text_slot}
+use Rattle.ild_typed.proofs.Making.{text_slot, itself}
 use Rattle.ild_typed.proofs.MakingValues.{typed_tree}
-use Rattle.ild_typed.proofs.Treed.{all_at}
 use Rattle.ild_typed.specs.EachLayer.{some_field, some_layer, some_pair}
 use Rattle.ild_typed.specs.Hamt.{whole}
 use Rattle.ild_typed.specs.Judged.{breaks_delimiter, exhausts, has_hole, is_exhausted, is_hole, map_exhausts, tuple_hole}
@@ -40,12 +41,6 @@ use Rattle.ild_typed.specs.Slots.{element_of, fields_of, member_of, slot_of}
 use Rattle.ild_typed.specs.Strings.{text_in}
 use Rattle.ild_value_meaning.proofs.ByParts.{ByParts, EntriesByParts, FieldsByParts}
 use Rattle.ild_value_meaning.proofs.TypedByParts.{to_parts}
-
-both_so : (a b : Bool) → a ≡ true → b ≡ true → (a && b) ≡ true
-both_so a b x y = ap (λ c. c && b) x ∙ y
-
-slot_in : (o : Option Slot) (u : Slot) (f : Slot → Bool) → o ≡ Some u → f u ≡ false → option_map_or f o false ≡ false
-slot_in o u f e h = ap (λ p. option_map_or f p false) e ∙ h
 
 member_slot : (F : Option TypeDef) (u : UnionDef) (n : ℕ) (m : Member) → F ≡ Some (D.Union u) → slice_get u.members n ≡ Some m → member_of F n ≡ Some (plainly m.ty)
 member_slot F u n m e h = ap (λ g. member_of g n) e ∙ ap (option_map slot_of) h
@@ -96,15 +91,15 @@ module _ (rows : List Row) (is_key : ℕ → List ℕ → Bool) (schema : IsSche
       free (V.list vs) s text t = absurd (parts_of s (Some (D.List t.0 t.1)) text t.2)
       free (V.map ps) s text t =
           let elem = parts_of s (Some (D.Map t.0 t.1 t.2 t.3 t.4)) text t.5 in
-          both_false (test (form_of rows s) (V.map ps)) (option_map_or (λ u. some_pair test rows u ps) (element_of (form_of rows s)) false) (own s (V.map ps) text)
+          or_from (test (form_of rows s) (V.map ps)) (option_map_or (λ u. some_pair test rows u ps) (element_of (form_of rows s)) false) (own s (V.map ps) text)
           (slot_in (element_of (form_of rows s)) t.2 (λ u. some_pair test rows u ps) (ap element_of t.5) (free_pairs ps (t.0).0 t.2 elem t.6))
       free (V.struct os) s text t =
-          both_false (test (form_of rows s) (V.struct os)) (some_field test rows (fields_of (form_of rows s)) os) (own s (V.struct os) text)
+          or_from (test (form_of rows s) (V.struct os)) (some_field test rows (fields_of (form_of rows s)) os) (own s (V.struct os) text)
           (ap (λ F. some_field test rows (fields_of F) os) t.1 ∙ free_fields os (t.0).fields (parts_of s (Some (D.Struct t.0)) text t.1) t.2)
       free (V.union n v) s text t =
           let slot = plainly (t.1).ty in
           let inner = all_at (λ m. IsTextSlot rows (plainly m.ty)) (t.0).members n t.1 (parts_of s (Some (D.Union t.0)) text t.2) t.3 in
-          both_false (test (form_of rows s) (V.union n v)) (option_map_or (λ u. some_layer test rows u v) (member_of (form_of rows s) n) false) (own s (V.union n v) text)
+          or_from (test (form_of rows s) (V.union n v)) (option_map_or (λ u. some_layer test rows u v) (member_of (form_of rows s) n) false) (own s (V.union n v) text)
           (slot_in (member_of (form_of rows s) n) slot (λ u. some_layer test rows u v) (member_slot (form_of rows s) t.0 n t.1 t.2 t.3) (free v slot inner t.4))
       free (V.enum n) s text t = refl
       free V.unit s text t = refl
@@ -113,14 +108,14 @@ module _ (rows : List Row) (is_key : ℕ → List ℕ → Bool) (schema : IsSche
 
       free_pairs : (ps : Pairs) (key : ℕ) (s : Slot) → IsTextSlot rows s → EntriesByParts rows is_key key s ps → some_pair test rows s ps ≡ false
       free_pairs V.no_pairs key s text t = refl
-      free_pairs (V.pair k v ps) key s text t = both_false (some_layer test rows s v) (some_pair test rows s ps) (free v s text t.1) (free_pairs ps key s text t.2)
+      free_pairs (V.pair k v ps) key s text t = or_from (some_layer test rows s v) (some_pair test rows s ps) (free v s text t.1) (free_pairs ps key s text t.2)
 
       free_fields : (os : Optionals) (fs : List Field) → AllByRecursion (λ f. IsTextSlot rows f.slot) fs → FieldsByParts rows is_key fs os → some_field test rows fs os ≡ false
       free_fields V.no_optionals fs all t = refl
       free_fields (V.absent os) [] all t = refl
       free_fields (V.absent os) (f ∷ fs) all t = free_fields os fs all.1 t.1
       free_fields (V.present v os) [] all t = refl
-      free_fields (V.present v os) (f ∷ fs) all t = both_false (some_layer test rows f.slot v) (some_field test rows fs os) (free v f.slot all.0 t.0) (free_fields os fs all.1 t.1)
+      free_fields (V.present v os) (f ∷ fs) all t = or_from (some_layer test rows f.slot v) (some_field test rows fs os) (free v f.slot all.0 t.0) (free_fields os fs all.1 t.1)
 
   -- no root of a HAMT stands in a text
   mutual
@@ -142,14 +137,14 @@ module _ (rows : List Row) (is_key : ℕ → List ℕ → Bool) (schema : IsSche
 
     pairs_entire : (ps : Pairs) (key : ℕ) (s : Slot) → IsTextSlot rows s → EntriesByParts rows is_key key s ps → pairs_whole ps ≡ true
     pairs_entire V.no_pairs key s text t = refl
-    pairs_entire (V.pair k v ps) key s text t = both_so (is_whole v) (pairs_whole ps) (entire v s text t.1) (pairs_entire ps key s text t.2)
+    pairs_entire (V.pair k v ps) key s text t = and_from (is_whole v) (pairs_whole ps) (entire v s text t.1) (pairs_entire ps key s text t.2)
 
     fields_entire : (os : Optionals) (fs : List Field) → AllByRecursion (λ f. IsTextSlot rows f.slot) fs → FieldsByParts rows is_key fs os → fields_whole os ≡ true
     fields_entire V.no_optionals fs all t = refl
     fields_entire (V.absent os) [] all t = absurd t
     fields_entire (V.absent os) (f ∷ fs) all t = fields_entire os fs all.1 t.1
     fields_entire (V.present v os) [] all t = absurd t
-    fields_entire (V.present v os) (f ∷ fs) all t = both_so (is_whole v) (fields_whole os) (entire v f.slot all.0 t.0) (fields_entire os fs all.1 t.1)
+    fields_entire (V.present v os) (f ∷ fs) all t = and_from (is_whole v) (fields_whole os) (entire v f.slot all.0 t.0) (fields_entire os fs all.1 t.1)
 
   pub has_text : (h : List ℕ → List ℕ) → TestsKeys rows is_key → (s : Slot) (v : Value) → IsTextSlot rows s → OfType rows s v → breaks_delimiter rows s v ≡ false → (x : List ℕ) × (text_rep rows s v ≡ Some x)
   has_text h keys s v text typed sound =

@@ -3,6 +3,7 @@ use Rattle.std.proofs.Common.{◌≡◌, ℕ, List, [], ◌∷◌, ◌++◌, tru
 use Rattle.std.specs.Prelude.{not}
 use Rattle.std.specs.Option.{option_map_or}
 use Rattle.std.proofs.lemmas.Option.{same_Some}
+use Rattle.std.proofs.lemmas.Bool.{and_parts}
 use Rattle.ild_schema.specs.declared.def.MapForm.TheVariants as MF
 use Rattle.ild_schema.specs.declared.def.TypeDef.{TypeDef}
 use Rattle.ild_schema.specs.declared.def.TypeDef.TheVariants as D
@@ -12,7 +13,6 @@ use Rattle.ild_schema.specs.Value as V
 use Rattle.ild_schema.specs.Value.{Value, Pairs}
 use Rattle.ild_typed.specs.At.{InSlot, at, seen}
 use Rattle.ild_typed.specs.Segment.{part}
-use Rattle.ild_typed.proofs.Basics.{both_true}
 use Rattle.ild_path_within.proofs.Splitting.{first_of_path}
 use Rattle.ild_typed_fronts.specs.Front.{in_one_block, is_root, stands_as_root}
 use Rattle.ild_typed_fronts.proofs.Pathing.{not_true}
@@ -49,7 +49,7 @@ module _ (h : List ℕ → List ℕ) (rows : List Row) where
   pub none_met : (path : List (List ℕ)) (p : InSlot) → in_one_block rows p path ≡ true → nodes_met h rows p path ≡ []
   none_met [] p e = refl
   none_met (s ∷ ss) p e =
-      let x = both_true (not (is_root rows p)) (option_map_or (λ q. in_one_block rows q ss) (part (seen rows p) s) true) e in
+      let x = and_parts (not (is_root rows p)) (option_map_or (λ q. in_one_block rows q ss) (part (seen rows p) s) true) e in
       let own = none_for (form_of rows p.0) p.1 s (not_true (is_root rows p) x.0) in
       ap (λ ns. ns ++ behind_first (part (seen rows p) s) ss) own ∙ none_behind ss (part (seen rows p) s) (λ q one. none_met ss q one) x.1
 

@@ -4,6 +4,7 @@ use Rattle.std.specs.Prelude.{IsUtf8, not, ◌&&◌, Result, Ok, option_and_then
 use Rattle.std.specs.List.{AllByRecursion}
 use Rattle.std.specs.Option.{option_map_or}
 use Rattle.std.proofs.lemmas.Option.{none-some}
+use Rattle.std.proofs.lemmas.Bool.{and_parts}
 use Rattle.ild_schema.specs.declared.def.TypeDef.{TypeDef}
 use Rattle.ild_schema.specs.declared.number.Slot.{Slot}
 use Rattle.ild_schema.specs.declared.row.Row.{Row}
@@ -15,7 +16,6 @@ use Rattle.ild_typed.specs.Holder.{Holder, value_of}
 use Rattle.ild_typed.specs.OfType.{OfType, TestsKeys}
 use Rattle.ild_typed.specs.Schema.{IsSchema}
 use Rattle.ild_typed.specs.Segment.{part, set_part}
-use Rattle.ild_typed.proofs.Basics.{both_true}
 use Rattle.ild_path_edits.specs.Edit.{Edit, set_at, ins_at, del_at, HasTextPath, path_of, placed, set_in, ins_in, unless_kept, del_in, change}
 use Rattle.ild_path_edits.specs.EditLaws.{Brings}
 use Rattle.ild_path_edits.specs.Table.{slot_to_set, slot_to_insert, key_fits, MayStand, insert_part, delete_part, refusal_to_delete}
@@ -37,10 +37,10 @@ module _ (rows : List Row) (is_key : ℕ → List ℕ → Bool) (schema : IsSche
   Of slot v = OfType rows slot v
 
   plain_first : (p : InSlot) (s : List ℕ) (ss : List (List ℕ)) → in_one_block rows p (s ∷ ss) ≡ true → is_root rows p ≡ false
-  plain_first p s ss e = not_true (is_root rows p) (both_true (not (is_root rows p)) _ e).0
+  plain_first p s ss e = not_true (is_root rows p) (and_parts (not (is_root rows p)) _ e).0
 
   rest_inside : (p q : InSlot) (s : List ℕ) (ss : List (List ℕ)) → in_one_block rows p (s ∷ ss) ≡ true → part (seen rows p) s ≡ Some q → in_one_block rows q ss ≡ true
-  rest_inside p q s ss e there = sym (ap (λ o. option_map_or (λ q. in_one_block rows q ss) o true) there) ∙ (both_true (not (is_root rows p)) _ e).1
+  rest_inside p q s ss e there = sym (ap (λ o. option_map_or (λ q. in_one_block rows q ss) o true) there) ∙ (and_parts (not (is_root rows p)) _ e).1
 
   still_plain : (f : Holder → List ℕ → Holder) → KeepsPlain f → (p : InSlot) (s : List ℕ) → is_root rows p ≡ false → is_root rows (p.0, value_of (f (seen rows p) s)) ≡ false
   still_plain f keeps p s plain = keeps (form_of rows p.0) (seen rows p) s (ap (stands_as_root (form_of rows p.0)) (holder_back rows p.0 p.1) ∙ plain)

@@ -3,6 +3,7 @@ use Rattle.std.proofs.Common.{◌≡◌, ℕ, suc, ◌+◌, ◌<◌, ◌≤◌, 
 use Rattle.std.specs.Option.{option_or}
 use Rattle.std.specs.Prelude.{option_map}
 use Rattle.std.proofs.lemmas.Bool.{ltb-true}
+use Rattle.ild_data.proofs.Options.{map_none}
 use Rattle.ild_resolve.specs.declared.error.ResolveErr.TheVariants as E
 use Rattle.ild_resolve.specs.Events.{Event, declares, begins, part, types_in}
 use Rattle.ild_resolve.specs.Faults.{first_above, first_again, taken_names, declared_fault, first_wrong, fault_in}
@@ -57,10 +58,6 @@ neither : {A : Type 0} (o p : Option A) → option_or o p ≡ None → (o ≡ No
 neither None p h = (refl, h)
 neither (Some x) p h = absurd cc
 
-unmapped : {A B : Type 0} (f : A → B) (o : Option A) → option_map f o ≡ None → o ≡ None
-unmapped f None h = refl
-unmapped f (Some x) h = absurd cc
-
 -- no limit is passed, and no name declared again
 pub record IsDeclared (es : List Event) : Type 0 where
   pub above : first_above 0 es ≡ None
@@ -69,7 +66,7 @@ pub record IsDeclared (es : List Event) : Type 0 where
 pub none_declared : (es : List Event) → declared_fault es ≡ None → IsDeclared es
 none_declared es h =
     let both = neither (option_map E.Many (first_above 0 es)) (option_map E.Twice (first_again taken_names es)) h in
-    record { above = unmapped E.Many (first_above 0 es) both.0; again = unmapped E.Twice (first_again taken_names es) both.1 }
+    record { above = map_none E.Many (first_above 0 es) both.0; again = map_none E.Twice (first_again taken_names es) both.1 }
 
 pub no_faults : (es : List Event) → fault_in es ≡ None → (declared_fault es ≡ None) × (first_wrong (λ name. number_of name es) es ≡ None)
 no_faults es h = neither (declared_fault es) (first_wrong (λ name. number_of name es) es) h

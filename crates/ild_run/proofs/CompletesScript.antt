@@ -4,6 +4,7 @@ use Rattle.std.proofs.lemmas.Option.{same_Some, none-some}
 use Rattle.ild_compile.specs.Compile.{Verdict, table}
 use Rattle.ild_compile.proofs.OneVerdict.{one_verdict_lem}
 use Rattle.ild_cbor.specs.declared.why.BlockWhy.{BlockWhy}
+use Rattle.ild_data.proofs.Options.{some_there}
 use Rattle.ild_data.specs.declared.id.BlockId.{BlockId}
 use Rattle.ild_edges.specs.Count.{Rose, bumped}
 use Rattle.ild_edges.specs.Inputs.{MayBe}
@@ -16,7 +17,7 @@ use Rattle.ild_run_open.specs.declared.start.Start.TheVariants as B
 use Rattle.ild_run_open.specs.declared.start.StartFault.TheVariants as P
 use Rattle.ild_run_script.proofs.Plainness.{plain_lines}
 use Rattle.ild_run_script.proofs.Scripting.{asks_later}
-use Rattle.ild_run_script.specs.Plainly.{MayBatch, MayCome, StartsAt}
+use Rattle.ild_run_script.specs.Plainly.{MayCome, StartsAt}
 use Rattle.ild_run_script.specs.Scripts.{lines_on, AnswersAll as ScriptAll}
 use Rattle.ild_schema.specs.Names.{number_named}
 use Rattle.ild_schema.specs.Table.{IsTable}
@@ -25,7 +26,7 @@ use Rattle.ild_schema.specs.declared.number.TypeNo.{TypeNo}
 use Rattle.ild_schema.specs.declared.row.Row.{Row}
 use Rattle.ild_script.specs.Line.{lines_of}
 use Rattle.ild_script_session.proofs.Steps.{told_later}
-use Rattle.ild_script_session.specs.Plain.{AreApart, AreAllApart}
+use Rattle.ild_script_session.specs.Plain.{AreApart}
 use Rattle.ild_script_session.specs.Run.{Run}
 use Rattle.ild_script_session.specs.Session.{resting}
 use Rattle.ild_script_session.specs.Step.{Carries}
@@ -113,10 +114,6 @@ one_first rows schema n (B.Root root) v block held then m k told later asks firs
     one_stands bare bare_is_frame (block_at held) hash rows schema n root.0 first.value v there starts
 one_first rows schema n B.Empty v block held then m k told later asks first starts = same_Some first.value v (sym first.from ∙ starts)
 
-some_told : (o : Option (List (List ℕ))) → o ≢ None → (held : List (List ℕ)) × (o ≡ Some held)
-some_told None told = absurd (told refl)
-some_told (Some held) told = (held, refl)
-
 is_told : (o : Option (List (List ℕ))) (held : List (List ℕ)) → o ≡ Some held → o ≢ None
 is_told o held is none = none-some held (sym none ∙ is)
 
@@ -193,7 +190,7 @@ module _ (c : Call) (tests : Tests) (v : Typed) (script : List ℕ) (given : IsG
         let opened = all.answered.opened in
         let later = asks_later given.rows given.type given.start c.before.moment opened all.answered.asks in
         let told = told_later c.before.moment opened later (is_told c.before.moment.blocks given.held given.store) in
-        let some = some_told opened.blocks told in
+        let some = some_there opened.blocks told in
         let from = all.answered.from some.0 tests some.1 given.tested in
         let M = lines_on given.rows given.type tests in
         let same = one_first given.rows (record { table = tabled; accepted = given.compiles.accepted }) given.type given.start v all.answered.block given.held some.0 c.before.moment opened given.store some.1 all.answered.asks from.first given.starts in

@@ -1,9 +1,10 @@
 -- A read of the value at which a document stands, as the answer to a line.
-use Rattle.std.proofs.Common.{◌≡◌, ◌≢◌, ℕ, List, Option, Some, None, refl, sym, ◌∙◌, subst}
+use Rattle.std.proofs.Common.{◌≡◌, ℕ, List, Some, refl, sym, ◌∙◌, subst}
 use Rattle.std.proofs.lemmas.Option.{same_Some}
 use Rattle.ild_cbor.specs.Block.{IsBlockOf}
 use Rattle.ild_cbor.specs.declared.piece.Piece.{Piece}
 use Rattle.ild_cbor.specs.declared.piece.Piece.TheVariants as P
+use Rattle.ild_data.proofs.Options.{some_there}
 use Rattle.ild_data.specs.Data.{Data}
 use Rattle.ild_data.specs.Limits.{deepest}
 use Rattle.ild_data.specs.Spell.{id_of}
@@ -39,11 +40,6 @@ use Rattle.ild_run_standing.specs.Laws.{HeldAreStanding}
 use Rattle.ild_run_standing.specs.Standing.{DocIsAt, IsHeldAt, setting_of}
 use Rattle.ild_run_standing.proofs.Passing.{values_pass_on}
 
--- what a store tells
-told_some : (o : Option (List (List ℕ))) → o ≢ None → (held : List (List ℕ)) × (o ≡ Some held)
-told_some None told = absurd (told refl)
-told_some (Some held) told = (held, refl)
-
 -- the body of the view of a whole block stands for its data
 body_stands : (rows : List Row) (t : Data) (b : Body) (p : Piece) → StandsFor rows p t → piece_in b ≡ Some p → BodyStands rows b t
 body_stands rows t (B.Held q) p stands is = subst (λ (x : Piece). StandsFor rows x t) (sym (same_Some q p is)) stands
@@ -59,7 +55,7 @@ module _ (trees : ValuesAreTrees) (roots : StandingAreHeld) (standing : HeldAreS
 
   at_view : (tests : Tests) (m : Moment) (v : Value) → IsHeldAt h d tests m v → (t : Data) × IsAtView h view m t v
   at_view tests m v x =
-      let told = told_some m.blocks x.at.told in
+      let told = some_there m.blocks x.at.told in
       let st = standing h d tests m told.0 v told.1 x in
       let rooted = roots (block_at told.0) h (table_in d) (type_in d) (id_of (block_in d)) v st in
       let one : st.tree ≡ x.at.tree = same_Some st.tree x.at.tree (sym st.storable.tree ∙ x.at.storable.tree) in

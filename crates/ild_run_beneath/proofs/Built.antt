@@ -3,6 +3,7 @@ use Rattle.std.proofs.Common.{◌≡◌, ℕ, List, [], ◌∷◌, length, refl,
 use Rattle.std.specs.List.{AllByRecursion}
 use Rattle.std.specs.Option.{option_map_or}
 use Rattle.ild_cbor.specs.Block.{IsBlockOf}
+use Rattle.ild_data.proofs.AllOf.{all_split}
 use Rattle.ild_data.specs.Data.{Data}
 use Rattle.ild_data.specs.Spell.{spell, id_of}
 use Rattle.ild_data.specs.Tree.{IsTree}
@@ -22,7 +23,6 @@ use Rattle.ild_typed.specs.Nested.{IsBlock}
 use Rattle.ild_typed.specs.Stands.{bare, blocks_of}
 use Rattle.ild_typed.specs.StandLaws.{BareIsFrame}
 use Rattle.ild_typed.specs.TreeLaws.{StorableBlocks}
-use Rattle.ild_typed.proofs.TreeNodes.{all_split}
 use Rattle.ild_typed.proofs.TreeValues.{whole_tree}
 use Rattle.ild_typed_places.specs.Places.{Places, nowhere, place, joined, blocks_in, places_in, value_places}
 use Rattle.ild_typed_places.proofs.Joining.{All, all_both}

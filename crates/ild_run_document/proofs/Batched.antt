@@ -2,6 +2,7 @@
 use Rattle.std.proofs.Common.{◌≡◌, ◌≢◌, ℕ, ◌-◌, ◌^◌, ◌≤◌, List, ◌++◌, length, Option, Some, None, refl, sym, ap, ◌∙◌, subst}
 use Rattle.std.specs.Prelude.{option_map}
 use Rattle.std.proofs.lemmas.Option.{same_Some}
+use Rattle.ild_script_batch.proofs.Inside.{told_over}
 use Rattle.ild_data.specs.Spell.{id_of}
 use Rattle.ild_dirty.specs.Batch.{batch_moment}
 use Rattle.ild_edges.specs.Store.{Moment}
@@ -27,10 +28,6 @@ refused_as : (reply : Reply) (refusal : No) → Some (told_inside reply) ≡ Som
 refused_as (R.No other) refusal e = same_Some (R.No other) (R.No refusal) e
 refused_as (R.Ok text) refusal e = absurd cc
 refused_as (R.Root id) refusal e = absurd (let bad : R.Ok null_text ≡ R.No refusal = sym null_is ∙ same_Some (told_inside (R.Root id)) (R.No refusal) e in cc)
-
-told_over : (own : List (List ℕ)) (o : Option (List (List ℕ))) → o ≢ None → option_map (λ held. own ++ held) o ≢ None
-told_over own None told = told
-told_over own (Some held) told = λ e. absurd cc
 
 told_beneath : (own : List (List ℕ)) (o : Option (List (List ℕ))) → option_map (λ held. own ++ held) o ≢ None → o ≢ None
 told_beneath own None told = told

@@ -11,6 +11,8 @@ use Rattle.ild_bulk.specs.Putting.{GivesAll}
 use Rattle.ild_bulk.proofs.Puts.{told-map}
 use Rattle.ild_bulk_places.specs.Leaving.{AddsPlaced, HasPlaceHeld}
 use Rattle.ild_cbor.specs.Block.{IsBlockOf}
+use Rattle.ild_path.proofs.Coming.{in_short as among_short}
+use Rattle.ild_data.proofs.AllOf.{all_contained, contains_more}
 use Rattle.ild_data.specs.Data.{Data}
 use Rattle.ild_data.specs.Limits.{longest_block}
 use Rattle.ild_data.specs.Spell.{id_of, spell}
@@ -41,15 +43,15 @@ use Rattle.ild_typed.specs.Represented.{represented}
 use Rattle.ild_typed.specs.Schema.{IsSchema}
 use Rattle.ild_typed.specs.Stands.{bare, blocks_of}
 use Rattle.ild_typed.specs.Typed.{Typed}
-use Rattle.ild_typed_places.proofs.Listing.{all_contained, all_one, contains_more}
+use Rattle.ild_typed_places.proofs.Listing.{all_one}
 use Rattle.ild_typed_places.specs.Places.{children_in, places_in}
 use Rattle.ild_value_meaning.specs.MeantRead.{meant}
 use Rattle.ild_path_brought.specs.Laws.{IsBrought}
 use Rattle.ild_path_brought.proofs.Lasting.{long_brought}
 use Rattle.ild_path_brought.proofs.Placing.{nodes_of_brought, places_of_brought}
-use Rattle.ild_path_edits.specs.Edit.{Edit, change, line_change, meant_or, new_part, new_slot, path_of, read_or}
+use Rattle.ild_path_edits.specs.Edit.{Edit, change, line_change, new_part, new_slot, path_of, read_or}
 use Rattle.ild_path_edits.specs.Judged.{Tests, judged_result, unless_judged}
-use Rattle.ild_path_edits.proofs.KeepTyped.{edits_keep_typed}
+use Rattle.ild_path_edits.proofs.KeepTyped.{edits_keep_typed, meant_ok}
 use Rattle.ild_path_judged.specs.Laws.{IsSound}
 use Rattle.ild_path_judged.specs.Place.{bringing}
 use Rattle.ild_path_judged.proofs.Order.{refused_in_order, unrefused_have_data}
@@ -61,21 +63,15 @@ use Rattle.ild_run_edit.specs.inside.Moves.{line_by, due_of, edited_by, BuildsAn
 use Rattle.ild_run_edit.proofs.Passing.{given_all}
 use Rattle.ild_run_edit.proofs.Joining.{line_made}
 use Rattle.ild_run_edit.proofs.Judging.{path_texts, brings_part}
-use Rattle.ild_run_edit.proofs.Listing.{among_short, held_blocks, long_one, placed_whole}
+use Rattle.ild_run_edit.proofs.Listing.{held_blocks, long_one, placed_whole}
 use Rattle.ild_run_edit.proofs.Settling.{adds_are, only_due, puts_due, some_met, too_long, whole_due}
 use Rattle.ild_run_edit.proofs.Still.{edited_part, slot_as, sound_of, still_moves}
 
 -- ---- the nodes of the part that a line brings
 
-meant_some : (o : Option Value) (w : Value) → meant_or o ≡ Ok w → o ≡ Some w
-meant_some None w e = absurd cc
-meant_some (Some v) w e = ap Some (same v w e) where
-  same : (v w : Value) → ◌≡◌ {A = Result Value No} (Ok v) (Ok w) → v ≡ w
-  same v w e = cc
-
 read_some : (by : Data → Option Value) (o : Option Data) (w : Value) → read_or by o ≡ Ok w → option_and_then by o ≡ Some w
 read_some by None w e = absurd cc
-read_some by (Some d) w e = meant_some (by d) w e
+read_some by (Some d) w e = meant_ok (by d) w e
 
 module _ (rows : List Row) (t : Tests) (p : InSlot) (path : List (List ℕ)) (json : List ℕ) (slot : Slot) (w : Value) (part : new_part rows t.is_key read_json (Some slot) json ≡ Ok w) where
   meant_is : (o : Option Slot) → o ≡ Some slot → meant_in rows t.is_key read_json o json ≡ Some (slot, w)

@@ -2,6 +2,7 @@
 use Rattle.std.proofs.Common.{cond, ◌≡◌, ℕ, Bool, true, false, ◌||◌, Option, Some, None, refl, sym, ◌∙◌, subst}
 use Rattle.std.specs.Prelude.{◌↔◌, is_none, unwrap_or}
 use Rattle.std.proofs.lemmas.Option.{none-some}
+use Rattle.std.proofs.lemmas.Bool.{or_left, or_right, or_from}
 use Rattle.ild_build.specs.declared.judgement.Judged.{Judged}
 use Rattle.ild_build.specs.declared.judgement.Judged.TheVariants as J
 use Rattle.ild_script.specs.declared.reply.No.{No}
@@ -28,17 +29,6 @@ Outcome hc bc FC ec ew (Some N.Exhausted) = (hc ≡ false) × (bc ≡ false) × 
 Outcome hc bc FC ec ew (Some other) = ⊥
 Outcome hc bc FC ec ew None = (hc ≡ false) × (bc ≡ false) × FC × (ec ≡ ew)
 
-or_left : (a b : Bool) → a ≡ true → (a || b) ≡ true
-or_left true b e = refl
-or_left false b e = absurd cc
-
-or_right : (a b : Bool) → b ≡ true → (a || b) ≡ true
-or_right true b e = refl
-or_right false b e = e
-
-or_false : (a b : Bool) → a ≡ false → b ≡ false → (a || b) ≡ false
-or_false a b p q = λ i. p i || q i
-
 full_true : (ew ea ec full : Bool) → ec ≡ (ew || ea) → (ew ≡ false → full ≡ ea) → full ≡ true → ec ≡ true
 full_true true ea ec full e t f = e
 full_true false ea ec full e t f = e ∙ sym (t refl) ∙ f
@@ -60,7 +50,7 @@ module _ (hw bw hc bc ha b : Bool) (FW : ℕ → Type 0) (FC : Type 0) (ec ew ea
   deep whole free (Some n) e unless f = (whole, free, λ x. unless (subst (FitsIt FW) e (depth.0 x)))
 
   none_there : hw ≡ false → ha ≡ false → hc ≡ false
-  none_there p q = hole ∙ or_false hw ha p q
+  none_there p q = hole ∙ or_from hw ha p q
 
   pub decided : (j : Option Judged) → Judges hw bw FW (unwrap_or room 96) j → (a : Bool) → ha ≡ a → (x : Bool) → b ≡ x → (f : Bool) → full ≡ f → Outcome hc bc FC ec ew (first_told true a j x room f)
   decided (Some J.Hole) k true e x g f l = hole ∙ or_left hw ha k

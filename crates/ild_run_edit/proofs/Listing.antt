@@ -7,6 +7,7 @@ use Rattle.std.proofs.lemmas.Bool.Decides.{nat_tests}
 use Rattle.std.proofs.lemmas.List.Elements.{Contains-append_left}
 use Rattle.ild_bulk.specs.Build.{any_long, is_long}
 use Rattle.ild_bulk_places.specs.Leaving.{HasPlaceHeld}
+use Rattle.ild_data.proofs.AllOf.{all_contained, contains_more}
 use Rattle.ild_data.specs.Data.{Data}
 use Rattle.ild_data.specs.Key.{same_text}
 use Rattle.ild_data.specs.Limits.{longest_block}
@@ -26,7 +27,7 @@ use Rattle.ild_typed.specs.Hamt.{whole}
 use Rattle.ild_typed.specs.Represented.{represented}
 use Rattle.ild_typed.specs.Stands.{Frame}
 use Rattle.ild_typed_places.proofs.Linked.{each_joined}
-use Rattle.ild_typed_places.proofs.Listing.{all_contained, all_mapped, contains_more}
+use Rattle.ild_typed_places.proofs.Listing.{all_mapped}
 use Rattle.ild_typed_places.specs.Parts.{LieIn}
 use Rattle.ild_typed_places.specs.Places.{Place, Places, children_at, children_in, each_place, joined, leaves, places_in, tops, value_places}
 use Rattle.ild_run_edit.proofs.Settling.{small}
@@ -43,10 +44,6 @@ all_short (c ∷ bs) = by (nat_le (length c) longest_block) refl (all_short bs) 
     all_more (λ b. length b ≤ longest_block → Contains (short bs) b) (λ b. length b ≤ longest_block → Contains (c ∷ short bs) b) (λ b f le. contains_more c (short bs) b (f le)) bs rest,
   )
   by false is rest = ((λ le. let e : false ≡ true = sym is ∙ small (length c) longest_block le in absurd cc), rest)
-
--- a block of these that is short is among the short ones
-pub among_short : (bs : List (List ℕ)) (b : List ℕ) → Contains bs b → length b ≤ longest_block → Contains (short bs) b
-among_short bs b among le = all_contained (λ b. length b ≤ longest_block → Contains (short bs) b) bs b (all_short bs) among le
 
 -- one of these that is too long
 pub long_one : (bs : List (List ℕ)) → any_long bs ≡ true → (b : List ℕ) × Contains bs b × (longest_block < length b)

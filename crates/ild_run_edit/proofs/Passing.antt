@@ -7,6 +7,7 @@ use Rattle.std.proofs.lemmas.Option.{same_Some}
 use Rattle.ild_edges.specs.Gained.{AreIdsGiven}
 use Rattle.ild_edges.specs.Among.{IsIn}
 use Rattle.ild_bulk.specs.Putting.{GivesAll}
+use Rattle.ild_data.proofs.AllOf.{all_contained}
 use Rattle.ild_data.specs.Data.{Data}
 use Rattle.ild_data.specs.Spell.{id_of, spell}
 use Rattle.ild_edges.specs.Store.{StaysGiven}
@@ -27,7 +28,7 @@ use Rattle.ild_typed.specs.Stands.{bare}
 use Rattle.ild_typed.specs.Typed.{Typed}
 use Rattle.ild_typed_places.specs.Carried.{Passed}
 use Rattle.ild_typed_places.specs.Places.{Place, each_place, down_from, value_places}
-use Rattle.ild_typed_places.proofs.Listing.{all_contained, all_mapped, all_one, mapped_all}
+use Rattle.ild_typed_places.proofs.Listing.{all_mapped, all_one, mapped_all}
 use Rattle.ild_path_edits.specs.Edit.{Edit, HasTextPath, change, new_slot, path_of}
 use Rattle.ild_path_edits.specs.EditLaws.{Brings}
 use Rattle.ild_path_edits.specs.Judged.{Tests, AreTests}

@@ -4,9 +4,7 @@ use Rattle.std.specs.Prelude.{Result, Ok, Err}
 use Rattle.std.specs.Result.{result_ok}
 use Rattle.ild_data.specs.Data.{Data}
 use Rattle.ild_json.specs.Reading.{json_read}
-use Rattle.ild_schema.specs.Accept.{IsAccepted}
 use Rattle.ild_schema.specs.Clear.{IsSafe}
-use Rattle.ild_schema.specs.Table.{IsTable}
 use Rattle.ild_schema.specs.Value.{Value}
 use Rattle.ild_schema.specs.declared.number.Slot.{Slot}
 use Rattle.ild_schema.specs.declared.row.Row.{Row}
@@ -43,9 +41,6 @@ part_as rows other slot same json r e f a = subst (λ rows. PartAnswer rows same
 
 pub typed_as : (rows other : List Row) (slot same : Slot) (w : Value) → rows ≡ other → slot ≡ same → Typed rows slot w → Typed other same w
 typed_as rows other slot same w e f a = subst (λ rows. Typed rows same w) e (subst (λ slot. Typed rows slot w) f a)
-
-pub schema_as : (rows other : List Row) → rows ≡ other → IsTable rows → IsAccepted rows → IsSchema other
-schema_as rows other e table accepted = record { table = subst IsTable e table; accepted = subst IsAccepted e accepted }
 
 pub typed_as_place : (rows other : List Row) (slot : Slot) (w : Value) → rows ≡ other → Typed rows slot w → Typed other slot w
 typed_as_place rows other slot w e a = subst (λ rows. Typed rows slot w) e a

@@ -3,6 +3,7 @@ use Rattle.std.proofs.Common.{◌≡◌, ◌≢◌, ◌⊎◌, inl, inr, ℕ, Li
 use Rattle.std.specs.Prelude.{Contains, Ok, Err}
 use Rattle.std.specs.List.{AllByRecursion}
 use Rattle.std.specs.Option.{option_map_or}
+use Rattle.ild_script_session.proofs.Steps.{told_later}
 use Rattle.ild_data.specs.Spell.{id_of}
 use Rattle.ild_edges.specs.Count.{Rose}
 use Rattle.ild_edges.specs.Store.{Moment, Later, Keeps, block_at}
@@ -60,12 +61,6 @@ carries_on w m n v later c = record {
   value = holds_on m n later ((typed_lines w).blocks v) c.value;
   places = carried_on m n later [] ((typed_lines w).places v) c.places;
 }
-
-still_told : (m n : Moment) → Later m n → m.blocks ≢ None → n.blocks ≢ None
-still_told m n later told e = by m.blocks refl (subst (λ o. BothTold m.blocks o Keeps) e later.keeps) where
-  by : (o : Option (List (List ℕ))) → m.blocks ≡ o → BothTold m.blocks None Keeps → ⊥
-  by None f k = told f
-  by (Some held) f k = subst (λ o. BothTold o None Keeps) f k
 
 told_is : (m : Moment) → m.blocks ≢ None → (held : List (List ℕ)) × (m.blocks ≡ Some held)
 told_is m told = by m.blocks refl where
@@ -133,7 +128,7 @@ refused_edits h d verb path json m n r x = record {
     failed = λ e. fails_rose m n r x.fails (no_same r N.Store e);
     leads = λ t v tests at. record {
       next = v;
-      at = record { told = still_told m n x.later at.at.told; tree = at.at.tree; storable = at.at.storable; block = at.at.block };
+      at = record { told = told_later m n x.later at.at.told; tree = at.at.tree; storable = at.at.storable; block = at.at.block };
       replies = refused_replies h d (edit_of verb path json) m n t v r x.later (x.makes t v tests at);
       passed = told_both m.given n.given (λ now. PassesOn (setting_of h d t) now v v) x.later.given (told_any n.given (λ now. PassesOn (setting_of h d t) now v v) (λ now. itself_passes (setting_of h d t) now v));
     };
@@ -146,7 +141,7 @@ refused_edits h d verb path json m n r x = record {
 module _ (at_standing : StandingAreAt) (h : List ℕ → List ℕ) (old new : Doc) (e : Edit (List ℕ)) (m n : Moment) (t : Tests) (v : Value) (b : List ℕ) (table : table_in new ≡ table_in old) (type : type_in new ≡ type_in old) (block : block_in new ≡ b)
     (later : Later m n) (told : m.blocks ≢ None) (x : IsNewRoot h (table_in old) t (type_in old) v e b n) where
   held : (held : List (List ℕ)) × (n.blocks ≡ Some held)
-  held = told_is n (still_told m n later told)
+  held = told_is n (told_later m n later told)
 
   -- the value stands under the id of the block
   all_there : AllByRecursion (λ b. block_at held.0 (id_of b) ≡ Some b) (blocks_of bare h (table_in old) (type_in old) x.value x.tree)

@@ -5,6 +5,7 @@ use Rattle.std.specs.List.{AllByRecursion}
 use Rattle.std.specs.Option.{option_map_or}
 use Rattle.std.proofs.lemmas.Option.{same_Some}
 use Rattle.std.specs.Result.{result_ok}
+use Rattle.ild_data.proofs.AllOf.{all_contained}
 use Rattle.ild_data.specs.Data.{Data}
 use Rattle.ild_data.specs.Limits.{longest_block}
 use Rattle.ild_data.specs.Spell.{id_of}
@@ -28,7 +29,6 @@ use Rattle.ild_typed.specs.Schema.{IsSchema}
 use Rattle.ild_typed.specs.Stands.{Stands, Storable, bare, blocks_of}
 use Rattle.ild_typed.specs.Typed.{Typed}
 use Rattle.ild_typed_places.specs.Places.{children_in}
-use Rattle.ild_typed_places.proofs.Listing.{all_contained}
 use Rattle.ild_path_edits.specs.Edit.{Edit, line_change, path_of}
 use Rattle.ild_path_edits.specs.Judged.{Tests, AreTests, are_sized, judged, unless_judged, judged_result}
 use Rattle.ild_path_edits.proofs.Judges.{unrefused_are_storable}

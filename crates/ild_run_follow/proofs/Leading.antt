@@ -5,9 +5,9 @@ use Rattle.std.specs.Prelude.{slice_get}
 use Rattle.std.proofs.lemmas.Option.{none-some}
 use Rattle.std.proofs.Math.Logic.{∥∥₁_elim, ∥∥₁_map}
 use Rattle.std.proofs.Props.{props}
+use Rattle.ild_open_parts.proofs.Turning.{only_refl}
 use Rattle.ild_data.specs.Data.{Data}
 use Rattle.ild_data.specs.declared.tree.Tree.{Tree}
-use Rattle.ild_edges.proofs.Later.{Later-refl, Later-trans}
 use Rattle.ild_edges.specs.Store.{Moment, block_at}
 use Rattle.ild_typed_fronts.specs.Front.{front, front_in, is_hamt, is_root}
 use Rattle.ild_open_held_parts.proofs.Leading.{paths_lead}
@@ -40,12 +40,6 @@ use Rattle.ild_run_follow.specs.declared.kind.Tell.TheVariants as T
 use Rattle.ild_run_follow.proofs.Standing.{part_at, viewed}
 
 -- ---- no get at all
-
-pub only_none : (m : Moment) → OnlyReads m m
-only_none m = record { later = Later-refl m; blocks = refl; given = refl; puts = refl }
-
-pub only_then : (m k n : Moment) → OnlyReads m k → OnlyReads k n → OnlyReads m n
-only_then m k n a b = record { later = Later-trans m k n a.later b.later; blocks = b.blocks ∙ a.blocks; given = b.given ∙ a.given; puts = b.puts ∙ a.puts }
 
 -- ---- where a path leads nowhere
 
@@ -246,7 +240,7 @@ module _ (h : List ℕ → List ℕ) (view : View) (schema : IsSchema (table_of 
         let none = to_none h rows (block_at x.held) k (At v) path (reached rows k (front_in h rows (At v)) path) e (steps (front h rows (slot_of view) v) (viewed h view m t v schema x)) (leads_at t v x) in
         none_answer h rows tell m n result (at rows (At v) path) none nothing;
     gets = λ t v x. let is : n.gets ≡ m.gets = ap (λ (o : Moment). o.gets) same in omega (arith, is);
-    only = subst (λ (o : Moment). OnlyReads m o) (sym same) (only_none m);
+    only = subst (λ (o : Moment). OnlyReads m o) (sym same) (only_refl m);
     failed = nothing_fails tell m n result nothing;
   }
 

@@ -3,6 +3,7 @@ use Rattle.std.proofs.Common.{◌≡◌, ℕ, ◌+◌, ◌≤◌, List, [], leng
 use Rattle.std.specs.Prelude.{cond, option_map}
 use Rattle.std.proofs.Math.Logic.{∥∥₁_elim}
 use Rattle.std.proofs.Props.{props}
+use Rattle.ild_open_parts.proofs.Turning.{only_refl}
 use Rattle.ild_data.specs.Data as D
 use Rattle.ild_data.specs.Data.{Data}
 use Rattle.ild_data.specs.Seen.{data_of}
@@ -35,7 +36,7 @@ use Rattle.ild_run_follow.specs.declared.fault.ReadFault.{ReadFault}
 use Rattle.ild_run_follow.specs.declared.fault.ReadFault.TheVariants as F
 use Rattle.ild_run_follow.specs.declared.kind.Tell.{Tell}
 use Rattle.ild_run_follow.specs.declared.kind.Tell.TheVariants as T
-use Rattle.ild_run_follow.proofs.Leading.{memory_fails, only_none, same_fails}
+use Rattle.ild_run_follow.proofs.Leading.{memory_fails, same_fails}
 use Rattle.ild_view.proofs.Opening.{safe_is}
 use Rattle.ild_run_follow.proofs.Standing.{viewed}
 
@@ -128,7 +129,7 @@ module _ (h : List ℕ → List ℕ) (view : View) (m : Moment) where
   tells_present tree is = record {
     answer = λ t v x. ap Some (sym is);
     gets = λ t v x. no_gets T.Presence v;
-    only = only_none m;
+    only = only_refl m;
     failed = tt;
   }
 
@@ -136,7 +137,7 @@ module _ (h : List ℕ → List ℕ) (view : View) (m : Moment) where
   tells_rep schema tree is = record {
     answer = λ t v x. sym (fronts_represent h (table_of view) (slot_of view) v) ∙ is (front h (table_of view) (slot_of view) v) (viewed h view m t v schema x);
     gets = λ t v x. no_gets T.Representation v;
-    only = only_none m;
+    only = only_refl m;
     failed = tt;
   }
 
@@ -144,6 +145,6 @@ module _ (h : List ℕ → List ℕ) (view : View) (m : Moment) where
   tells_no_memory tell e is = record {
     answer = λ t v x. says_memory h view tell m m e is (told h (table_of view) tell (Some (slot_of view, v)));
     gets = λ t v x. no_gets tell v;
-    only = only_none m;
+    only = only_refl m;
     failed = memory_fails m m e is;
   }

@@ -10,6 +10,7 @@ use Rattle.ild_cbor.specs.Nodes.{HasData}
 use Rattle.ild_cbor.specs.declared.node.Node.{Node}
 use Rattle.ild_cbor.specs.declared.piece.Piece.TheVariants as P
 use Rattle.ild_hamt_climb.specs.Seen.{ValueIs}
+use Rattle.ild_open_parts.proofs.Turning.{only_refl, only_trans}
 use Rattle.ild_data.specs.ByteOrder.{bytewise, in_byte_order}
 use Rattle.ild_data.specs.Data.{Data}
 use Rattle.ild_data.specs.Key.{value_at}
@@ -58,7 +59,7 @@ use Rattle.ild_run_follow.specs.Told.{told}
 use Rattle.ild_run_follow.specs.declared.fault.ReadFault.{ReadFault}
 use Rattle.ild_run_follow.specs.declared.fault.ReadFault.TheVariants as F
 use Rattle.ild_run_follow.specs.declared.kind.Tell.{Tell}
-use Rattle.ild_run_follow.proofs.Leading.{none_answer, nothing_fails, only_none, only_then}
+use Rattle.ild_run_follow.proofs.Leading.{none_answer, nothing_fails}
 use Rattle.ild_run_follow.proofs.Standing.{viewed}
 
 drop_at : (xs : List (List ℕ)) (k : ℕ) (x : List ℕ) → Some x ≡ slice_get xs k → drop k xs ≡ x ∷ drop (suc k) xs
@@ -122,7 +123,7 @@ module _ (h : List ℕ → List ℕ) (hamt : View) (schema : IsSchema (table_of 
     tells_memory n same = record {
       answer = λ t v x top. tt;
       gets = λ t v x top. let is : n.gets ≡ m.gets = ap (λ (o : Moment). o.gets) same in omega (arith, is);
-      only = subst (λ (o : Moment). OnlyReads m o) (sym same) (only_none m);
+      only = subst (λ (o : Moment). OnlyReads m o) (sym same) (only_refl m);
       failed = tt;
     }
 
@@ -306,7 +307,7 @@ module _ (h : List ℕ → List ℕ) (hamt : View) (schema : IsSchema (table_of 
           later_failed (Err F.Memory) f = tt
 
           both_only : OnlyReads m k → OnlyReads k n → OnlyReads m n
-          both_only a b = only_then m k n a b
+          both_only a b = only_trans m k n a b
 
           on_at : (t : Data) (v : Value) (x : ViewIsHeld h hamt m t v) (s : SomeEntry node x.held v) (w : View) → {slot : Slot} → IsViewAt rows slot (P.Node node) w → slot_of w ≡ s.0 → Node → ViewIsHeld h w k s.1 s.2
           on_at t v x s w c slot unused = record {

@@ -1,6 +1,7 @@
 -- The entries of a document's map, by what stands under its root.
-use Rattle.std.proofs.Common.{◌≡◌, ◌≢◌, ℕ, List, Option, Some, None, Ok, Err, refl, sym, ap, ◌∙◌, subst}
+use Rattle.std.proofs.Common.{◌≡◌, ℕ, List, Some, Ok, Err, sym, ap, ◌∙◌, subst}
 use Rattle.ild_cbor.specs.declared.why.BlockWhy.{BlockWhy}
+use Rattle.ild_data.proofs.Options.{some_there as told_some}
 use Rattle.ild_data.specs.Spell.{id_of}
 use Rattle.ild_data.specs.declared.id.BlockId.{BlockId}
 use Rattle.ild_edges.proofs.Reading.{from_told}
@@ -25,10 +26,6 @@ use Rattle.ild_typed.specs.StandLaws.{OneStands}
 use Rattle.ild_typed.specs.Stands.{IsFrame, Stands, bare}
 use Rattle.ild_view_doc.specs.Docs.{table_in, type_in, block_in}
 use Rattle.ild_view_doc.specs.declared.doc.Doc.{Doc}
-
-told_some : (o : Option (List (List ℕ))) → o ≢ None → (held : List (List ℕ)) × (o ≡ Some held)
-told_some None told = absurd (told refl)
-told_some (Some held) told = (held, refl)
 
 module _ (back : HeldAreStanding) (d : Doc) (rows : List Row) (table : rows ≡ table_in d) (ty : TypeNo) (type : ty ≡ type_in d) (id : List ℕ) (root : id ≡ id_of (block_in d)) (m n : Moment) where
   -- the value at which the document stands, as the call sees it

@@ -1,6 +1,7 @@
 -- The run of the generator, from its start and to its end.
 use Rattle.std.proofs.Common.{◌≡◌, ℕ, suc, [], ◌∷◌, List, length, map, Option, Some, None, refl, sym, ap, ◌∙◌, subst}
 use Rattle.std.specs.Option.{option_map_or}
+use Rattle.ild_schema.proofs.Parts.{pairs_list-pairs_of}
 use Rattle.ild_data.specs.Spell.{id_of}
 use Rattle.ild_edges.specs.Store.{Moment, block_at}
 use Rattle.ild_edges.specs.Told.{IfTold}
@@ -14,7 +15,6 @@ use Rattle.ild_schema.specs.declared.number.TypeNo.{TypeNo}
 use Rattle.ild_schema.specs.declared.row.Row.{Row}
 use Rattle.ild_script_meaning.specs.PlainMap.{as_value, int_entry}
 use Rattle.ild_script_meaning.specs.PlainValue.{Value as Entries}
-use Rattle.ild_typed.proofs.Lists.{pairs_list-pairs_of}
 use Rattle.ild_typed.specs.Stands.{Stands, Storable, bare, root_id}
 use Rattle.ild_run_generate.specs.inside.Counting.{count_in}
 use Rattle.ild_view_doc.specs.Docs.{table_in, block_in}

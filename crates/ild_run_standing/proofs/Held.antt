@@ -12,7 +12,7 @@ use Rattle.ild_schema.specs.Value.{Value}
 use Rattle.ild_typed.specs.Hamt.{whole}
 use Rattle.ild_typed.specs.Represented.{represented}
 use Rattle.ild_typed.specs.Stands.{Stands, bare, blocks_of}
-use Rattle.ild_typed.specs.Among.{AreUnderIds}
+use Rattle.ild_data.specs.Among.{AreUnderIds}
 use Rattle.ild_typed_places.specs.Laws.{PlacesAreHeld}
 use Rattle.ild_typed_places.specs.Places.{Place, down_from, each_place, value_places}
 use Rattle.ild_path_edits.specs.Judged.{Tests}

@@ -11,7 +11,7 @@ use Rattle.ild_schema.specs.Table.{IsTable, IsWithin, def_at}
 use Rattle.ild_schema.proofs.Circles.{circular_after, followed_or, followed_reached}
 
 -- the target of a type of a table is in the table
-target_below : (count : ℕ) (d : TypeDef) (t : ℕ) → IsWithin count d → target_of d ≡ Some t → t < count
+pub target_below : (count : ℕ) (d : TypeDef) (t : ℕ) → IsWithin count d → target_of d ≡ Some t → t < count
 target_below count (D.Copy target) t within h =
     let low : target.0 < count = within.1 0 0 (lit< tt) in
     let same : target.0 ≡ t = cc in

@@ -60,7 +60,7 @@ upto_all ts i ns all h = record { rising = h.rising; found = λ q. h.found q ∙
 
 -- ---- a part by its text
 
-got_at : (ns : List ℕ) (i : ℕ) → i < length ns → slice_get ns i ≡ Some (get_or ns i 0)
+pub got_at : (ns : List ℕ) (i : ℕ) → i < length ns → slice_get ns i ≡ Some (get_or ns i 0)
 got_at [] i lt = absurd (omega (arith, lt))
 got_at (n ∷ ns) zero lt = refl
 got_at (n ∷ ns) (suc i) lt = got_at ns i (omega (arith, lt))

@@ -3,6 +3,7 @@ use Rattle.std.proofs.Common.{◌≡◌, ℕ, suc, ◌<◌, Bool, true, false, �
 use Rattle.std.specs.Prelude.{bytes_eq, option_and_then}
 use Rattle.std.specs.List.{slice_get, AllByRecursion}
 use Rattle.std.specs.Option.{option_map_or}
+use Rattle.ild_data.proofs.AllOf.{all_indexed}
 use Rattle.ild_schema.specs.declared.number.Slot.{Slot}
 use Rattle.ild_schema.specs.declared.def.TypeDef.{TypeDef}
 use Rattle.ild_schema.specs.declared.def.TypeDef.TheVariants as D
@@ -38,7 +39,7 @@ use Rattle.ild_schema.specs.Prefixes.{begins, prefix_fails}
 use Rattle.ild_schema.specs.Rules.{is_null_twice, is_kind_wrong, is_not_bytes, union_kind_fault, is_no_text, is_text_struct, is_text_map, is_text_union, is_optional_wrong, is_of, is_implicit_wrong, is_map_struct, is_map_form, is_inline, is_field_wrong, is_bare_join, is_member_wrong, is_value_wrong}
 use Rattle.ild_schema.specs.Slots.{plainly}
 use Rattle.ild_schema.proofs.Kinding.{kinds_told, only_one}
-use Rattle.ild_schema.proofs.Passing.{left, right, past, unless, never, not_placed, not_first, not_next, all_pass, each_passes, none_any, all_of, one_place}
+use Rattle.ild_schema.proofs.Passing.{left, right, past, unless, never, not_placed, not_first, not_next, all_pass, each_passes, none_any, one_place}
 use Rattle.ild_schema.proofs.Ruling.{Passes, def_passes}
 use Rattle.ild_schema.proofs.Telling.{equal_texts, same_told, same_integers, some_of, some_behind, at_some, fields_beside, values_beside, members_beside, key_free, same_swap, member_kind, kinds_beside, prefixes_beside}
 
@@ -56,7 +57,7 @@ entry_given inner entry h = given entry (right (is_empty inner) (is_empty entry)
 
 names_apart : (fs : List Field) → ((i j : ℕ) (f g : Field) → i < j → slice_get fs i ≡ Some f → slice_get fs j ≡ Some g → field_text f ≡ field_text g → ⊥) → AreNamesApart fs
 names_apart [] h = tt
-names_apart (f ∷ fs) h = (all_of (λ g. field_text f ≡ field_text g → ⊥) fs (λ j g e. h 0 (suc j) f g (omega arith) refl e), names_apart fs (λ i j a b lt. h (suc i) (suc j) a b (omega arith)))
+names_apart (f ∷ fs) h = (all_indexed (λ g. field_text f ≡ field_text g → ⊥) fs (λ j g e. h 0 (suc j) f g (omega arith) refl e), names_apart fs (λ i j a b lt. h (suc i) (suc j) a b (omega arith)))
 
 implicit_fine : (optional : Bool) (test : Scalar → Bool) (o : Option Scalar) → option_map_or (λ v. optional || not (test v)) o false ≡ false → optional ≡ true → o ≡ None
 implicit_fine optional test None h e = refl
@@ -68,7 +69,7 @@ implicit_fits optional test o v h e = unless (test v) (right optional (not (test
 clear_fields : (rows : List Row) (fs : List Field) → first_beside is_field_again (λ f. f.at) [] fs ≡ None → first_place (is_implicit_wrong rows) (λ f. f.at) fs ≡ None → AreClearFields fs
 clear_fields rows fs h k = record {
   apart = names_apart fs (λ i j f g lt e u same. never (bytes_eq (field_text g) (field_text f)) (equal_texts (field_text g) (field_text f) (sym same)) (right (bytes_eq g.name f.name) (bytes_eq (field_text g) (field_text f)) (fields_beside fs h i j f g lt e u)));
-  required = all_of IsRequired fs (λ i f e. implicit_fine f.optional (λ v. is_of v (meant rows f.slot.ty.0)) f.implicit (all_pass (is_implicit_wrong rows) (λ f. f.at) fs k i f e));
+  required = all_indexed IsRequired fs (λ i f e. implicit_fine f.optional (λ v. is_of v (meant rows f.slot.ty.0)) f.implicit (all_pass (is_implicit_wrong rows) (λ f. f.at) fs k i f e));
 }
 
 clear_struct : (rows : List Row) (at : ℕ) (form : StructForm) (fs : List Field) → first_beside is_field_again (λ f. f.at) [] fs ≡ None → first_place (is_implicit_wrong rows) (λ f. f.at) fs ≡ None
@@ -182,7 +183,7 @@ safe rows s h e = sym (kinds_told rows s W.Null) ∙ past s.nullable (kinds_of r
 parts_safe : (rows : List Row) (at : ℕ) (d : TypeDef) → Passes rows at d → AreSafe rows d
 parts_safe rows at (D.List elem place) p = safe rows elem (not_placed (is_null_twice rows elem) place p.null)
 parts_safe rows at (D.Map key key_at value place form) p = safe rows value (not_placed (is_null_twice rows value) place p.null)
-parts_safe rows at (D.Struct s) p = all_of (λ f. IsSafe rows f.slot) s.fields (λ i f e. safe rows f.slot (all_pass (λ f. is_null_twice rows f.slot) (λ f. f.at) s.fields p.null i f e))
+parts_safe rows at (D.Struct s) p = all_indexed (λ f. IsSafe rows f.slot) s.fields (λ i f e. safe rows f.slot (all_pass (λ f. is_null_twice rows f.slot) (λ f. f.at) s.fields p.null i f e))
 parts_safe rows at d p = tt
 
 -- ---- what values are made of
@@ -201,8 +202,8 @@ made_struct : (rows : List Row) (form : StructForm) (fs : List Field) → first_
 made_struct rows S.Map fs h o = tt
 made_struct rows S.Tuple fs h o = tt
 made_struct rows S.ListPairs fs h o = tt
-made_struct rows (S.StringPairs inner entry) fs h o = all_of (λ f. IsTextSlot rows f.slot) fs (λ i f e. text_slot rows f.slot (all_pass (λ f. is_no_text rows f.slot) (λ f. f.at) fs h i f e))
-made_struct rows (S.StringJoin delim) fs h o = all_of (λ f. IsTextSlot rows f.slot × (f.optional ≡ false)) fs
+made_struct rows (S.StringPairs inner entry) fs h o = all_indexed (λ f. IsTextSlot rows f.slot) fs (λ i f e. text_slot rows f.slot (all_pass (λ f. is_no_text rows f.slot) (λ f. f.at) fs h i f e))
+made_struct rows (S.StringJoin delim) fs h o = all_indexed (λ f. IsTextSlot rows f.slot × (f.optional ≡ false)) fs
     (λ i f e. (text_slot rows f.slot (all_pass (λ f. is_no_text rows f.slot) (λ f. f.at) fs h i f e), each_passes (is_optional_wrong (S.StringJoin delim)) (λ f. f.at) [] fs o i f e))
 
 made_map : (rows : List Row) (at : ℕ) (form : MapForm) (value : Slot) → place_if (is_text_map form && is_no_text rows value) at ≡ None → MadeMap rows form value
@@ -211,7 +212,7 @@ made_map rows at M.ListPairs value h = tt
 made_map rows at (M.StringPairs inner entry) value h = text_slot rows value (not_placed (is_no_text rows value) at h)
 made_map rows at (M.Hamt shape) value h = tt
 
-map_form : (form : StructForm) → is_map_form form ≡ true → form ≡ S.Map
+pub map_form : (form : StructForm) → is_map_form form ≡ true → form ≡ S.Map
 map_form S.Map h = refl
 map_form form h = absurd cc
 
@@ -220,7 +221,7 @@ inlined rows key m (Some (D.Struct s)) e h k = record {
   struct = s;
   known = e;
   form = map_form s.form h;
-  apart = all_of (λ f. key ≡ field_text f → ⊥) s.fields (λ i f u same. never (bytes_eq key (field_text f)) (equal_texts key (field_text f) same) (none_any (λ f. bytes_eq key (field_text f)) s.fields k i f u));
+  apart = all_indexed (λ f. key ≡ field_text f → ⊥) s.fields (λ i f u same. never (bytes_eq key (field_text f)) (equal_texts key (field_text f) same) (none_any (λ f. bytes_eq key (field_text f)) s.fields k i f u));
 }
 inlined rows key m o e h k = absurd cc
 
@@ -247,15 +248,15 @@ module _ (rows : List Row) (ms : List Member) where
   )
 
 made_enum : (form : EnumForm) (ms : List EnumMember) → first_place (is_value_wrong form) (λ m. m.at) ms ≡ None → AllByRecursion (MadeEnum form) ms
-made_enum E.Text ms s = all_of (MadeEnum E.Text) ms (λ i m e. tt)
-made_enum E.Int ms s = all_of (MadeEnum E.Int) ms (λ i m e. some_of (member_integer m) (all_pass (is_value_wrong E.Int) (λ m. m.at) ms s i m e))
+made_enum E.Text ms s = all_indexed (MadeEnum E.Text) ms (λ i m e. tt)
+made_enum E.Int ms s = all_indexed (MadeEnum E.Int) ms (λ i m e. some_of (member_integer m) (all_pass (is_value_wrong E.Int) (λ m. m.at) ms s i m e))
 
 made_type : (rows : List Row) (at : ℕ) (d : TypeDef) → Passes rows at d → MadeType rows d
 made_type rows at (D.Map key key_at value place form) p = made_map rows place form value p.text
 made_type rows at (D.Struct s) p = made_struct rows s.form s.fields p.text p.optional
 made_type rows at (D.Union u) p =
     let names : first_beside (is_member_again rows u.form) (λ m. m.at) [] u.members ≡ None = not_next (has_one_key u.form) at (first_beside (is_member_again rows u.form) (λ m. m.at) [] u.members) p.name in
-    all_of (MadeMember rows u.form) u.members (made_member rows u.members u.form names p.strategy p.kind p.text p.inline)
+    all_indexed (MadeMember rows u.form) u.members (made_member rows u.members u.form names p.strategy p.kind p.text p.inline)
 made_type rows at (D.Enum e) p = made_enum e.form e.members p.strategy
 made_type rows at d p = tt
 
@@ -287,7 +288,7 @@ apart_type rows at d p = tt
 
 fitting_type : (rows : List Row) (at : ℕ) (d : TypeDef) → Passes rows at d → FittingType rows d
 fitting_type rows at (D.Map key key_at value place form) p = only_kind rows (plainly key) W.Text (unless (has_text_form rows key.0) (not_placed (not (has_text_form rows key.0)) key_at p.key))
-fitting_type rows at (D.Struct s) p = all_of (ImplicitFits rows) s.fields
+fitting_type rows at (D.Struct s) p = all_indexed (ImplicitFits rows) s.fields
     (λ i f e v u. implicit_fits f.optional (λ v. is_of v (meant rows f.slot.ty.0)) f.implicit v (all_pass (is_implicit_wrong rows) (λ f. f.at) s.fields p.implicit i f e) u)
 fitting_type rows at d p = tt
 

@@ -1,16 +1,16 @@
 mod Copying
 mod Doubles
 pub mod Circles
-mod Ending
+pub mod Ending
 mod Keeping
-mod Finding
+pub mod Finding
 mod Naming
 pub mod Puts
 mod Seats
-mod Parts
+pub mod Parts
 mod Writing
 pub mod Kinding
 pub mod Passing
 pub mod Ruling
-mod Telling
+pub mod Telling
 pub mod Legibly

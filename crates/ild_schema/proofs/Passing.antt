@@ -1,9 +1,10 @@
 -- What follows where no part is told at which a rule fails.
 use Rattle.std.proofs.Common.{◌≡◌, inl, inr, ℕ, zero, suc, ◌<◌, Bool, true, false, ◌&&◌, ◌||◌, not, List, [], ◌∷◌, ◌++◌, Option, Some, None, take, refl, sym, ap, ◌∙◌, append_assoc, arith}
 use Rattle.std.specs.Prelude.{if◌then◌else◌, find}
-use Rattle.std.specs.List.{list_any, slice_get, AllByRecursion}
-use Rattle.std.specs.Option.{option_map, option_or}
+use Rattle.std.specs.List.{list_any, slice_get}
+use Rattle.std.specs.Option.{option_or}
 use Rattle.std.proofs.lemmas.Bool.{cases_lt, cases_eq}
+use Rattle.ild_data.proofs.Options.{map_none}
 use Rattle.ild_schema.specs.Places.{first_place, first_beside, place_if}
 
 -- ---- truth values and options
@@ -35,10 +36,6 @@ first_none (Some x) b h = h
 pub next_none : {A : Type 0} (a b : Option A) → option_or a b ≡ None → b ≡ None
 next_none None b h = h
 next_none (Some x) b h = absurd cc
-
-pub map_none : {A B : Type 0} (f : A → B) (o : Option A) → option_map f o ≡ None → o ≡ None
-map_none f None h = refl
-map_none f (Some x) h = absurd cc
 
 if_none : {A : Type 0} (b : Bool) (a : A) (o : Option A) → (if b then Some a else o) ≡ None → b ≡ false
 if_none true a o h = absurd cc
@@ -98,11 +95,6 @@ pub none_any : {A : Type 0} (test : A → Bool) (xs : List A) → list_any test 
 none_any test [] h i x e = absurd cc
 none_any test (y ∷ ys) h zero x e = let same : y ≡ x = cc in ap test (sym same) ∙ left (test y) (list_any test ys) h
 none_any test (y ∷ ys) h (suc i) x e = none_any test ys (right (test y) (list_any test ys) h) i x e
-
--- what holds of each part, by its place
-pub all_of : {A : Type 0} (P : A → Type 0) (xs : List A) → ((i : ℕ) (x : A) → slice_get xs i ≡ Some x → P x) → AllByRecursion P xs
-all_of P [] h = tt
-all_of P (y ∷ ys) h = (h 0 y refl, all_of P ys (λ i x e. h (suc i) x e))
 
 -- two parts that clash neither way are one
 pub one_place : {A : Type 0} (Clash : A → A → Type 0) (xs : List A)

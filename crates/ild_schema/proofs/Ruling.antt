@@ -2,6 +2,7 @@
 use Rattle.std.proofs.Common.{◌≡◌, ℕ, zero, suc, List, [], ◌∷◌, Option, Some, None, refl, sym, ap, ◌∙◌}
 use Rattle.std.specs.List.{slice_get}
 use Rattle.std.specs.Option.{option_map}
+use Rattle.ild_data.proofs.Options.{map_none}
 use Rattle.ild_schema.specs.declared.def.TypeDef.{TypeDef}
 use Rattle.ild_schema.specs.declared.row.Row.{Row}
 use Rattle.ild_schema.specs.declared.rule.Rule.{Rule}
@@ -12,7 +13,7 @@ use Rattle.ild_schema.specs.Delimiters.{delim_fault}
 use Rattle.ild_schema.specs.Prefixes.{prefix_fault}
 use Rattle.ild_schema.specs.Rules.{null_fault, kind_fault, text_fault, optional_fault, implicit_fault, inline_fault, key_fault, strategy_fault}
 use Rattle.ild_schema.specs.Table.{def_at}
-use Rattle.ild_schema.proofs.Passing.{first_none, next_none, map_none}
+use Rattle.ild_schema.proofs.Passing.{first_none, next_none}
 
 -- no rule fails for a type at a place
 pub record Passes (rows : List Row) (at : ℕ) (d : TypeDef) : Type 0 where

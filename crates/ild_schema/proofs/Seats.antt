@@ -1,6 +1,6 @@
 -- Where a text stands among those of parts that rise, and what a part more at that place finds.
 use Rattle.std.proofs.Common.{◌≡◌, ℕ, zero, suc, ◌<◌, ◌≤◌, ◌-◌, Bool, true, false, cond, List, [], ◌∷◌, Option, Some, None, option_map, Result, Ok, Err, length, map, get_or, insert, refl, ap, sym, ◌∙◌, subst, arith}
-use Rattle.std.specs.Prelude.{bytes_eq, slice_get}
+use Rattle.std.specs.Prelude.{bytes_eq}
 use Rattle.std.specs.Cmp.Lexicographic.{same_text as text_same}
 use Rattle.std.specs.List.Sorted.{IsBinarySearchResult, IsSearchInRange}
 use Rattle.std.specs.Option.{option_or, unwrap_or}
@@ -9,6 +9,7 @@ use Rattle.std.specs.declared.cmp.Ordering.{Ordering}
 use Rattle.std.specs.declared.cmp.Ordering.TheVariants.{Less, Equal, Greater}
 use Rattle.std.proofs.lemmas.List.{get_or-map, length-map}
 use Rattle.std.proofs.Math.ListN.{get_or-map as map_default}
+use Rattle.ild_data.proofs.Gets.{there_at}
 use Rattle.ild_data.specs.Key.{key_cmp, key_less, put, value_at, Rises}
 use Rattle.ild_data.proofs.Lists.{map-insert}
 use Rattle.ild_data.proofs.Places.{Behind, IsPlace, put_insert, searched, value_none, value_some}
@@ -78,11 +79,6 @@ or_none : {A : Type 0} (o : Option A) → option_or o None ≡ o
 or_none None = refl
 or_none (Some x) = refl
 
-there : {A : Type 0} (xs : List A) (i : ℕ) → i < length xs → (x : A) × (slice_get xs i ≡ Some x)
-there [] i lt = absurd (omega (arith, lt))
-there (x ∷ xs) zero lt = (x, refl)
-there (x ∷ xs) (suc i) lt = there xs i (omega (arith, lt))
-
 kept_by : (q k : List ℕ) (part : ℕ) (o : Option ℕ) (b : Bool) → b ≡ bytes_eq q k → (q ≡ k → (n : ℕ) × (o ≡ Some n)) → o ≡ option_or o (cond b (Some part) None)
 kept_by q k part o true is h = let x = h (text_same q k is) in x.1 ∙ sym (ap (λ o. option_or o (Some part)) x.1)
 kept_by q k part o false is h = sym (or_none o)
@@ -91,7 +87,7 @@ pub put_kept : (ts : List (Option (List ℕ))) (part : ℕ) (xs ns : List ℕ) (
 put_kept ts part xs ns k r i up some same found is =
     let ms = under_texts ts ns in
     let seat : IsSeat k ms (Ok i) = subst (IsSeat k ms) is (subst (λ ys. IsSeat k (under_texts ts ys) r) same found) in
-    let x = there ms i seat.found.0 in
+    let x = there_at ms i seat.found.0 in
     record {
       rising = up;
       found = λ q. kept_by q k part (value_at q ms) (bytes_eq q k) refl (λ e. (x.0.1, ap (λ t. value_at t ms) e ∙ seat.found.1 ∙ ap (option_map (λ (p : List ℕ × ℕ). p.1)) x.1))

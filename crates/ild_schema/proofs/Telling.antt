@@ -45,7 +45,7 @@ pub some_of : {A : Type 0} (o : Option A) → is_none o ≡ false → (a : A) ×
 some_of None h = absurd cc
 some_of (Some a) h = (a, refl)
 
-some_there : {A : Type 0} (o : Option A) → is_none o ≡ false → is_some o ≡ true
+pub some_there : {A : Type 0} (o : Option A) → is_none o ≡ false → is_some o ≡ true
 some_there None h = absurd cc
 some_there (Some a) h = refl
 

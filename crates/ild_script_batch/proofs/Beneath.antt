@@ -1,17 +1,11 @@
 -- A store beneath a batch, where the batch is later.
-use Rattle.std.proofs.Common.{◌≡◌, ℕ, zero, suc, List, Option, sym, subst, arith}
+use Rattle.std.proofs.Common.{ℕ, zero, suc, List, arith}
 use Rattle.std.specs.List.{slice_get}
+use Rattle.ild_edges.proofs.Reading.{kept_same, given_same}
 use Rattle.ild_dirty.specs.Batch.{batch_moment}
-use Rattle.ild_edges.specs.Store.{Moment, StaysBelow, asked_over, Later, Keeps, StaysGiven}
+use Rattle.ild_edges.specs.Store.{Moment, StaysBelow, asked_over, Later}
 use Rattle.ild_edges.specs.Told.{BothTold}
-use Rattle.ild_edges.proofs.Later.{keeps_refl, given_refl}
 use Rattle.ild_script_batch.specs.Inside.{LaterBeneath}
-
-keeps_same : (a b : Option (List (List ℕ))) → b ≡ a → BothTold a b Keeps
-keeps_same a b same = subst (λ (o : Option (List (List ℕ))). BothTold a o Keeps) (sym same) (keeps_refl a)
-
-given_same : (a b : Option (List (List ℕ))) → b ≡ a → BothTold a b StaysGiven
-given_same a b same = subst (λ (o : Option (List (List ℕ))). BothTold a o StaysGiven) (sym same) (given_refl a)
 
 -- what is beneath the store is beneath the batch, one further on
 deeper : (m n : Moment) (was now : List (List ℕ)) (g h p q : ℕ) (x y : ℕ × ℕ) → Later (batch_moment m was g p x) (batch_moment n now h q y)
@@ -24,7 +18,7 @@ later_beneath = λ m n was now g h p q x y later.
     let first = later.beneath zero in record {
       names = first.names;
       later = record {
-        keeps = keeps_same m.blocks n.blocks first.blocks;
+        keeps = kept_same m.blocks n.blocks first.blocks;
         given = given_same m.given n.given first.given;
         gets = first.more;
         puts = let same = first.puts in omega (arith, same);

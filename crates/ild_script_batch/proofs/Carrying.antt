@@ -5,6 +5,7 @@ use Rattle.std.specs.List.{AllByRecursion}
 use Rattle.std.specs.Option.{option_map_or}
 use Rattle.std.specs.Cmp.Lexicographic.{nat_list_eq_equiv}
 use Rattle.std.proofs.lemmas.Option.{none-some}
+use Rattle.ild_data.proofs.AllOf.{all_contained}
 use Rattle.ild_data.specs.Data.{Data}
 use Rattle.ild_data.specs.Key.{same_text}
 use Rattle.ild_data.specs.Spell.{id_of}
@@ -16,7 +17,7 @@ use Rattle.ild_schema.specs.Value.{Value}
 use Rattle.ild_typed.specs.Stands.{blocks_of}
 use Rattle.ild_typed_places.specs.Places.{Place, down_from, each_place, value_places}
 use Rattle.ild_typed_places.proofs.Joining.{down_each}
-use Rattle.ild_typed_places.proofs.Listing.{all_contained, all_mapped}
+use Rattle.ild_typed_places.proofs.Listing.{all_mapped}
 use Rattle.ild_typed_places.proofs.Telling.{to_places}
 use Rattle.ild_script_meaning.specs.Lines.{Setting, in_slot, places_in, tree_in, value_blocks}
 use Rattle.ild_script_session.specs.Step.{AreCarried, Holds}

@@ -5,6 +5,7 @@ use Rattle.std.specs.List.{AllByRecursion}
 use Rattle.std.specs.Option.{option_map_or}
 use Rattle.std.specs.Cmp.Lexicographic.{nat_list_eq_equiv}
 use Rattle.std.proofs.lemmas.List.{append-nil}
+use Rattle.ild_data.proofs.AllOf.{all_append, all_split, all_contained}
 use Rattle.ild_data.specs.Key.{same_text}
 use Rattle.ild_data.specs.Spell.{id_of, spell}
 use Rattle.ild_edges.specs.Among.{IsIn}
@@ -32,10 +33,8 @@ use Rattle.ild_script_session.specs.Session.{Due, Stage, resting}
 use Rattle.ild_script_session.specs.Step.{AreCarried, Carries, Gains, Holds, IsExcused, IsWhole, Replies, StaysTogether}
 use Rattle.ild_typed.specs.Stands.{blocks_of}
 use Rattle.ild_typed.proofs.Rooms.{all_more}
-use Rattle.ild_typed.proofs.Treed.{all_append}
-use Rattle.ild_typed.proofs.TreeNodes.{all_split}
 use Rattle.ild_typed_places.specs.Places.{Places, blocks_in, children_at, down_from, each_place, nowhere, value_places}
-use Rattle.ild_typed_places.proofs.Listing.{all_contained, all_mapped, all_one}
+use Rattle.ild_typed_places.proofs.Listing.{all_mapped, all_one}
 use Rattle.ild_typed_places.proofs.Telling.{from_places, to_places}
 use Rattle.ild_script_batch.specs.Commits.{CarriedAgree, FlushesCommit, IsTreeOf, commit_reply, commit_stage, put_before}
 use Rattle.ild_script_batch.specs.Inside.{batching, begun_at}

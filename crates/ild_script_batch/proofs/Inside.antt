@@ -3,6 +3,7 @@ use Rattle.std.proofs.Common.{◌≡◌, ◌≢◌, ◌⊎◌, inl, inr, ⊎_eli
 use Rattle.std.specs.Prelude.{Contains, option_map}
 use Rattle.std.specs.List.{AllByRecursion}
 use Rattle.std.proofs.lemmas.Option.{same_Some}
+use Rattle.ild_data.proofs.Options.{some_there}
 use Rattle.ild_data.specs.Data.{Data}
 use Rattle.ild_data.specs.Spell.{id_of}
 use Rattle.ild_dirty.specs.Batch.{batch_moment}
@@ -28,11 +29,7 @@ use Rattle.ild_script_batch.proofs.Changes.{owes_within}
 
 -- ---- causes
 
-told_some : (o : Option (List (List ℕ))) → o ≢ None → (held : List (List ℕ)) × (o ≡ Some held)
-told_some None told = absurd (told refl)
-told_some (Some held) told = (held, refl)
-
-told_over : (own : List (List ℕ)) (o : Option (List (List ℕ))) → o ≢ None → option_map (λ held. own ++ held) o ≢ None
+pub told_over : (own : List (List ℕ)) (o : Option (List (List ℕ))) → o ≢ None → option_map (λ held. own ++ held) o ≢ None
 told_over own None told = told
 told_over own (Some held) told = λ e. absurd cc
 
@@ -100,7 +97,7 @@ module _ (w : Setting) (v next kept : Value) (owed : ℕ) (reply : Reply) (m n :
   then_carried told c passed =
       let beneath : IsLaterBeneath m n x y = later_beneath m n was now 0 g 0 p x y r.later in
       let over : Carries (typed_lines w) (batch_moment n now g p y) (resting next) = r.carries (carried_over_batch w m v kept owed was 0 0 x c) in
-      let some : (held : List (List ℕ)) × (m.blocks ≡ Some held) = told_some m.blocks told in
+      let some : (held : List (List ℕ)) × (m.blocks ≡ Some held) = some_there m.blocks told in
       let held : n.blocks ≡ Some some.0 = beneath.blocks ∙ some.1 in
       let all : AllByRecursion (λ b. block_at (now ++ some.0) (id_of b) ≡ Some b) (value_blocks w next) =
       subst (λ (o : Option (List (List ℕ))). IfTold o (λ bs. AllByRecursion (λ b. block_at bs (id_of b) ≡ Some b) (value_blocks w next))) (ap (option_map (λ bs. now ++ bs)) held) over.value in

@@ -1,7 +1,7 @@
 mod Changes
 mod Beneath
 mod Carrying
-mod Inside
+pub mod Inside
 mod Listed
 mod Unkinded
 mod Commits

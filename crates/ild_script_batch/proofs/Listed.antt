@@ -3,6 +3,7 @@ use Rattle.std.proofs.Common.{◌≡◌, ◌⊎◌, inl, inr, ⊎_elim, ℕ, zer
 use Rattle.std.specs.Prelude.{Contains, IsSome, option_map}
 use Rattle.std.specs.List.{AllByRecursion, list_any}
 use Rattle.std.specs.Cmp.Lexicographic.{same_text as texts_same}
+use Rattle.ild_data.proofs.AllOf.{contains_more}
 use Rattle.ild_data.specs.Key.{same_text}
 use Rattle.ild_data.specs.Spell.{id_of}
 use Rattle.ild_edges.specs.Among.{IsIn}
@@ -11,7 +12,6 @@ use Rattle.ild_edges.specs.Store.{Keeps, block_at}
 use Rattle.ild_edges.specs.Told.{BothTold, IfTold}
 use Rattle.ild_typed.proofs.Rooms.{all_more}
 use Rattle.ild_typed_places.specs.Places.{Place, tops}
-use Rattle.ild_typed_places.proofs.Listing.{contains_more}
 use Rattle.ild_script_meaning.specs.Costs.{different}
 use Rattle.ild_script_session.proofs.Came.{Came}
 

@@ -3,11 +3,11 @@ use Rattle.std.proofs.Common.{◌≡◌, inl, inr, ℕ, List, [], ◌∷◌, ◌
 use Rattle.std.specs.Prelude.{Contains}
 use Rattle.std.proofs.lemmas.List.{map-append}
 use Rattle.std.proofs.lemmas.List.Elements.{Contains-append_left, Contains-append_right}
+use Rattle.ild_data.proofs.AllOf.{contains_more}
 use Rattle.ild_data.specs.Spell.{id_of}
 use Rattle.ild_dirty.specs.Beneath as B
 use Rattle.ild_dirty.specs.Beneath.{AreTrees, HasPlace, HasPlaceBelow, IsTree}
 use Rattle.ild_typed_places.specs.Places.{Place, Places, blocks_in, down_from, each_place, tops}
-use Rattle.ild_typed_places.proofs.Listing.{contains_more}
 use Rattle.ild_script_batch.specs.Commits.{put_before, unkinded}
 
 mutual

@@ -3,6 +3,7 @@ use Rattle.std.proofs.Common.{◌≡◌, ℕ, ℤ, List, [], ◌∷◌, map, Boo
 use Rattle.std.specs.Prelude.{◌||◌, IsUtf8, is_some, option_map, option_and_then, if◌then◌else◌}
 use Rattle.std.specs.List.{AllByRecursion}
 use Rattle.std.specs.Result.{result_ok}
+use Rattle.ild_schema.proofs.Parts.{pairs_list-pairs_of}
 use Rattle.ild_data.specs.Data as T
 use Rattle.ild_data.specs.Data.{Data}
 use Rattle.ild_data.specs.Key.{put, value_at, without}
@@ -20,7 +21,6 @@ use Rattle.ild_typed.specs.At.{InSlot, last_holder, changed_in}
 use Rattle.ild_typed.specs.Fits.{FitsPast}
 use Rattle.ild_typed.specs.Holder.{Holder, nothing}
 use Rattle.ild_typed.specs.OfType.{TestsKeys}
-use Rattle.ild_typed.proofs.Lists.{pairs_list-pairs_of}
 use Rattle.ild_value_meaning.specs.MeantRead.{meant}
 use Rattle.ild_path_edits.specs.Edit.{set_at, del_at, new_slot, new_part, read_or, with_part, changed_by, line_change, del_in, unless_kept}
 use Rattle.ild_path_edits.specs.Table.{slot_to_set, unless_there, delete_part}

@@ -5,8 +5,8 @@ use Rattle.std.specs.List.{AllByRecursion}
 use Rattle.std.specs.Ordering.{match_ordering}
 use Rattle.std.specs.declared.cmp.Ordering.{Ordering}
 use Rattle.std.specs.declared.cmp.Ordering.TheVariants.{Less, Equal, Greater}
+use Rattle.ild_schema.proofs.Parts.{pairs_list-pairs_of}
 use Rattle.ild_data.specs.Data as T
-use Rattle.ild_data.specs.Data.{Data}
 use Rattle.ild_data.specs.Integer.{IsInt}
 use Rattle.ild_data.specs.Key.{key_cmp, same_text, put, value_at, without, IsBelow, Rises}
 use Rattle.ild_schema.specs.declared.def.TypeDef.{TypeDef}
@@ -26,7 +26,6 @@ use Rattle.ild_typed.specs.Layers.{EntriesFit, RepresentsSome}
 use Rattle.ild_typed.specs.Strings.{cons_both}
 use Rattle.ild_typed.specs.Represented.{represented, represented_pairs, layered}
 use Rattle.ild_typed.specs.Stands.{bare, blocks_of}
-use Rattle.ild_typed.proofs.Lists.{pairs_list-pairs_of}
 use Rattle.ild_script_meaning.specs.PlainValue as P
 use Rattle.ild_script_meaning.specs.PlainMap.{plain_rows, int_entry, as_value, IsPlain}
 

@@ -1,19 +1,12 @@
 -- Where a key has its place among entries, and the spelling of entries.
-use Rattle.std.proofs.Common.{cond, ◌≡◌, ℕ, ◌+◌, Bool, true, false, List, [], ◌∷◌, ◌++◌, length, Some, None, refl, ap, sym, ◌∙◌, append_assoc, arith}
+use Rattle.std.proofs.Common.{cond, ◌≡◌, ℕ, ◌+◌, Bool, true, false, List, [], ◌∷◌, length, Some, None, refl, ap, sym, arith}
 use Rattle.std.specs.Prelude.{is_some}
 use Rattle.std.specs.Ordering.{match_ordering}
 use Rattle.std.specs.declared.cmp.Ordering.TheVariants.{Less, Equal, Greater}
 use Rattle.std.proofs.lemmas.Option.{none-some}
-use Rattle.ild_splice_changes.specs.Laws.{spell_pairs}
 use Rattle.ild_data.specs.Data.{Data}
 use Rattle.ild_data.specs.Key.{key_cmp, same_text, put, value_at, without}
-use Rattle.ild_data.specs.Spell.{spell, spell_text}
 use Rattle.ild_data.proofs.Rising.{agrees, differs}
-
-pub spell_pairs-append : (xs ys : List (List ℕ × Data)) → spell_pairs (xs ++ ys) ≡ spell_pairs xs ++ spell_pairs ys
-spell_pairs-append [] ys = refl
-spell_pairs-append (x ∷ xs) ys =
-    ap (λ z. (spell_text x.0 ++ spell x.1) ++ z) (spell_pairs-append xs ys) ∙ sym (append_assoc (spell_text x.0 ++ spell x.1) (spell_pairs xs) (spell_pairs ys))
 
 -- ---- a key beside the first of the entries
 

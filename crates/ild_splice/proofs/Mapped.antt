@@ -9,13 +9,14 @@ use Rattle.ild_cbor.specs.Scalar.{kind_of, count_of}
 use Rattle.ild_cbor.specs.Span.{entry_of}
 use Rattle.ild_splice_changes.specs.Laws.{spell_pairs}
 use Rattle.ild_splice_changes.specs.TreeChange.{insert_entry, remove_entry, change_here}
+use Rattle.ild_splice_changes.proofs.Counts.{spell_pairs-append}
 use Rattle.ild_data.specs.Data.{Data, null, boolean, integer, text, bytes, list, map, link, Members, members_of, members_list}
 use Rattle.ild_data.specs.Key.{put, without}
 use Rattle.ild_data.specs.Spell.{head, spell, spell_text, spell_members}
 use Rattle.ild_data.proofs.Lists.{length-members, members_of-members_list}
 use Rattle.ild_data.proofs.Sizes.{members_count}
 use Rattle.ild_splice.specs.Around.{AreAroundKey, AreCutAtKey}
-use Rattle.ild_splice.proofs.Keyed.{spell_pairs-append, stays, one_less}
+use Rattle.ild_splice.proofs.Keyed.{stays, one_less}
 
 pub map_if : (d : Data) → kind_of d ≡ K.Map → (ms : Members) × (d ≡ map ms)
 map_if null e = absurd cc

@@ -106,7 +106,7 @@ found_at : (n m : Node) (t d : Data) (q : List TreeStep) (s : TreeStep) (sought 
 found_at n m t d q s sought None is step at finds = absurd finds
 found_at n m t d q s sought (Some u) is step at finds = record { part = u; is = is; at = at_step n m t d u q s at (sym step ∙ is) finds }
 
-item_step : (d : Data) (i : ℕ) → item_of d i ≡ child (nth i) d
+pub item_step : (d : Data) (i : ℕ) → item_of d i ≡ child (nth i) d
 item_step null i = refl
 item_step (boolean b) i = refl
 item_step (integer n) i = refl
@@ -116,7 +116,7 @@ item_step (list ds) i = refl
 item_step (map ms) i = refl
 item_step (link x) i = refl
 
-entry_step : (d : Data) (k : List ℕ) → entry_of d k ≡ child (key k) d
+pub entry_step : (d : Data) (k : List ℕ) → entry_of d k ≡ child (key k) d
 entry_step null k = refl
 entry_step (boolean b) k = refl
 entry_step (integer n) k = refl

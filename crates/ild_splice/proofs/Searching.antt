@@ -8,6 +8,7 @@ use Rattle.ild_cbor.specs.Nodes.{HasData}
 use Rattle.ild_cbor.specs.Steps.{HasEntries, EntryStep, EntriesGive, FindsEntries}
 use Rattle.ild_splice_changes.specs.Laws.{spell_pairs}
 use Rattle.ild_splice_changes.proofs.Maps.{below_absent}
+use Rattle.ild_splice_changes.proofs.Counts.{spell_pairs-append}
 use Rattle.ild_data.specs.Data.{Data, map, Members, no_members, member, members_list}
 use Rattle.ild_data.specs.Key.{key_cmp, put, without, Rises}
 use Rattle.ild_data.specs.Limits.{longest_block}
@@ -16,7 +17,7 @@ use Rattle.ild_data.specs.Tree.{AreEntries}
 use Rattle.ild_data.proofs.Lists.{members_of-members_list}
 use Rattle.ild_data.proofs.Rising.{rises_list}
 use Rattle.ild_splice.specs.Around.{AreCutAtKey}
-use Rattle.ild_splice.proofs.Keyed.{spell_pairs-append, put_less, put_equal, put_greater, without_equal, without_greater, stays}
+use Rattle.ild_splice.proofs.Keyed.{put_less, put_equal, put_greater, without_equal, without_greater, stays}
 
 -- some entries were passed, and the place of the key is behind them
 pub record Passed (key : List ℕ) (ms : List (List ℕ × Data)) (passed : ℕ) (rest : Pairs) : Type 0 where

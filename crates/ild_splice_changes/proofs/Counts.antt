@@ -18,7 +18,7 @@ spell_list-append : (xs ys : List Data) → spell_list (xs ++ ys) ≡ spell_list
 spell_list-append [] ys = refl
 spell_list-append (x ∷ xs) ys = ap (λ z. spell x ++ z) (spell_list-append xs ys) ∙ sym (append_assoc (spell x) (spell_list xs) (spell_list ys))
 
-spell_pairs-append : (xs ys : List (List ℕ × Data)) → spell_pairs (xs ++ ys) ≡ spell_pairs xs ++ spell_pairs ys
+pub spell_pairs-append : (xs ys : List (List ℕ × Data)) → spell_pairs (xs ++ ys) ≡ spell_pairs xs ++ spell_pairs ys
 spell_pairs-append [] ys = refl
 spell_pairs-append (x ∷ xs) ys =
     ap (λ z. (spell_text x.0 ++ spell x.1) ++ z) (spell_pairs-append xs ys) ∙ sym (append_assoc (spell_text x.0 ++ spell x.1) (spell_pairs xs) (spell_pairs ys))

@@ -2,6 +2,7 @@
 use Rattle.std.proofs.Common.{◌≡◌, ℕ, ◌<◌, List, length, map, get_or, option_map, Option, Some, None, refl, sym, ◌∙◌, ap, subst}
 use Rattle.std.specs.Borrow.{Bor}
 use Rattle.std.specs.Prelude.{slice_get, option_and_then}
+use Rattle.ild_data.proofs.AllOf.{all_at}
 use Rattle.ild_data.specs.Data as T
 use Rattle.ild_data.specs.Data.{Data}
 use Rattle.ild_data.specs.Key.{value_at}
@@ -51,7 +52,7 @@ use Rattle.ild_struct.specs.declared.source.Source.TheVariants as R
 use Rattle.ild_struct.proofs.Looking.{joined_at, keyed, map_keyed, placed}
 use Rattle.ild_struct.proofs.Plain.{join_plain, tuple_plain}
 use Rattle.ild_struct.proofs.Splitting.{text_value_at}
-use Rattle.ild_layer_fields.proofs.Placing.{all_at, get_at}
+use Rattle.ild_layer_fields.proofs.Placing.{get_at}
 
 -- the form of the layer
 pub made_of : (rows : List Row) (ty : ℕ) (t : Data) (s : StructDef) (os : List (Option Data)) → IsStruct rows ty s → Layered rows ty t (L.struct os) → struct_form s.form s.fields os ≡ Some t
@@ -167,7 +168,7 @@ part_looked cuts ps i o r same looked found =
 
 -- ---- the field
 
-found_of : (n : Node) (place : ℕ) (o : Option Data) (r : Option Node) → Finds n place o r → Found o r
+pub found_of : (n : Node) (place : ℕ) (o : Option Data) (r : Option Node) → Finds n place o r → Found o r
 found_of n place None None h = tt
 found_of n place None (Some m) h = h
 found_of n place (Some d) None h = h

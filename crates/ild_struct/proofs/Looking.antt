@@ -3,6 +3,10 @@ use Rattle.std.proofs.Common.{◌≡◌, ℕ, zero, suc, ◌<◌, List, [], ◌�
 use Rattle.std.specs.Prelude.{slice_get, option_and_then}
 use Rattle.std.specs.List.{AllByRecursion}
 use Rattle.std.proofs.lemmas.Option.{same_Some, none-some}
+use Rattle.std.proofs.lemmas.Bool.{and_parts}
+use Rattle.ild_typed.proofs.Unions.{text_same_data}
+use Rattle.ild_typed.proofs.CleanStructs.{texts_count}
+use Rattle.ild_data.proofs.AllOf.{all_at}
 use Rattle.ild_data.specs.Data as T
 use Rattle.ild_data.specs.Data.{Data}
 use Rattle.ild_data.specs.Key.{value_at}
@@ -20,7 +24,7 @@ use Rattle.ild_typed.specs.Cuts.{parted}
 use Rattle.ild_typed.specs.Fields.{is_implicit, field_entries, are_absent, tuple_items, all_items}
 use Rattle.ild_typed.specs.Texts.{join}
 use Rattle.ild_typed.specs.Strings.{in_key_order, map_data, members_in, text_in, texts_in, stringjoin}
-use Rattle.ild_typed.proofs.Basics.{map_from, then_from, true_from, both_true}
+use Rattle.ild_typed.proofs.Basics.{map_from, then_from, true_from}
 use Rattle.ild_typed.proofs.Entries.{both_from, only_text_data, value_sorted}
 use Rattle.ild_typed.proofs.CleanTexts.{parted_join}
 use Rattle.ild_typed.proofs.Structs.{all_count, field_from, look, past, not_there}
@@ -28,7 +32,6 @@ use Rattle.ild_layer_piece.specs.Entries.{Found}
 use Rattle.ild_struct.specs.Parts.{IsFieldPart}
 use Rattle.ild_struct.specs.inside.Reading.{IsLookedUp, shown}
 use Rattle.ild_struct.specs.declared.part.Part.{Part}
-use Rattle.ild_layer_fields.proofs.Placing.{all_at}
 
 -- ---- by its name
 
@@ -96,7 +99,7 @@ absent_at [] os i none less = absurd (omega arith)
 absent_at (f ∷ fs) [] i none less = absurd cc
 absent_at (f ∷ fs) (Some d ∷ os) i none less = absurd cc
 absent_at (f ∷ fs) (None ∷ os) zero none less = refl
-absent_at (f ∷ fs) (None ∷ os) (suc i) none less = absent_at fs os i (both_true f.optional (are_absent fs os) none).1 (omega arith)
+absent_at (f ∷ fs) (None ∷ os) (suc i) none less = absent_at fs os i (and_parts f.optional (are_absent fs os) none).1 (omega arith)
 
 pub placed : (fs : List Field) (os : List (Option Data)) (ds : List Data) (i : ℕ) → tuple_items fs os ≡ Some ds → i < length fs → Placed os i (slice_get ds i)
 placed [] os ds i made less = absurd (omega arith)
@@ -140,19 +143,10 @@ text_at (d ∷ ds) ps (suc i) made =
     let b = both_from (text_in d) (texts_in ds) ps made in
     ap (λ qs. option_map T.text (slice_get qs (suc i))) (sym b.all) ∙ text_at ds b.items i b.rest
 
-text_tells : (a b : List ℕ) → T.text a ≡ T.text b → a ≡ b
-text_tells a b e = cc
-
 parted_parts : (delim : List ℕ) (fs : List Field) (ps : List (List ℕ)) (s : List ℕ) (i : ℕ) → HasDelims (S.StringJoin delim) fs → i < length fs → length ps ≡ length fs → join delim ps ≡ Some s → parted delim s ≡ ps
 parted_parts delim [] ps s i given less n made = absurd given
 parted_parts delim (f ∷ fs) [] s i given less n made = absurd (omega (arith, n))
 parted_parts delim (f ∷ fs) (p ∷ ps) s i given less n made = parted_join delim given p ps s made
-
-texts_many : (ds : List Data) (ps : List (List ℕ)) → texts_in ds ≡ Some ps → length ps ≡ length ds
-texts_many [] ps made = ap length (sym (same_Some [] ps made))
-texts_many (d ∷ ds) ps made =
-    let b = both_from (text_in d) (texts_in ds) ps made in
-    ap length (sym b.all) ∙ ap suc (texts_many ds b.items b.rest)
 
 pub joined_at : (delim s : List ℕ) (fs : List Field) (os : List (Option Data)) (i : ℕ) → HasDelims (S.StringJoin delim) fs → i < length fs → struct_form (S.StringJoin delim) fs os ≡ Some (T.text s)
     → PartOf os i (option_map T.text (slice_get (parted delim s) i))
@@ -160,8 +154,8 @@ joined_at delim s fs os i given less made =
     let x = then_from (stringjoin delim) (all_items fs os) (T.text s) made in
     let y = map_from T.text (option_and_then (join delim) (texts_in x.item)) (T.text s) x.made in
     let z = then_from (join delim) (texts_in x.item) y.item y.there in
-    let text : y.item ≡ s = text_tells y.item s (same_Some (T.text y.item) (T.text s) y.made) in
-    let cuts : parted delim s ≡ z.item = parted_parts delim fs z.item s i given less (texts_many x.item z.item z.there ∙ all_count fs os x.item x.there) (z.made ∙ ap Some text) in
+    let text : y.item ≡ s = text_same_data y.item s (same_Some (T.text y.item) (T.text s) y.made) in
+    let cuts : parted delim s ≡ z.item = parted_parts delim fs z.item s i given less (texts_count x.item z.item z.there ∙ all_count fs os x.item x.there) (z.made ∙ ap Some text) in
     record {
       held = slice_get x.item i;
       at = whole_at fs os x.item i x.there less;

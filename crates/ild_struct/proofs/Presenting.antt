@@ -4,7 +4,9 @@ use Rattle.std.specs.Prelude.{nat_eq, slice_get}
 use Rattle.std.specs.List.{list_any, AllByRecursion}
 use Rattle.std.specs.Cmp.Lexicographic.{same_text as text_same}
 use Rattle.std.proofs.lemmas.Option.{same_Some, none-some}
-use Rattle.std.proofs.lemmas.Bool.{eqb-true}
+use Rattle.std.proofs.lemmas.Bool.{eqb-true, or_parts}
+use Rattle.ild_data.proofs.AllOf.{all_at}
+use Rattle.ild_data.proofs.Gets.{got_below}
 use Rattle.ild_data.specs.Data.{Data}
 use Rattle.ild_data.specs.Key.{same_text, value_at}
 use Rattle.ild_schema.specs.Clear.{AreNamesApart, IsRequired}
@@ -14,14 +16,14 @@ use Rattle.ild_typed.specs.Fields.{is_implicit, are_absent, tuple_items}
 use Rattle.ild_typed.specs.Named.{names, is_among, has_twice}
 use Rattle.ild_typed.specs.StructWhy.{has_stranger, is_name_of, place_of}
 use Rattle.ild_typed.proofs.Basics.{map_from, true_from}
-use Rattle.ild_typed.proofs.Cleans.{or_false, never}
+use Rattle.ild_typed.proofs.Cleans.{never}
 use Rattle.ild_typed.proofs.Entries.{same_text_self}
 use Rattle.ild_struct.specs.Present.{ArePresent, ComeOnce, numbered}
 use Rattle.ild_layer_fields.specs.Entries.{by_place}
 use Rattle.ild_struct.specs.inside.Stepping.{Written}
 use Rattle.ild_struct.specs.inside.Reading.{shown}
 use Rattle.ild_struct.proofs.Looking.{Keyed, Placed}
-use Rattle.ild_layer_fields.proofs.Placing.{all_at, name_at, text_turn}
+use Rattle.ild_layer_fields.proofs.Placing.{name_at, text_turn}
 
 -- ---- by names
 
@@ -52,13 +54,13 @@ found_past : (e : List ℕ × Data) (whole : List (List ℕ × Data)) (es : List
     → AllByRecursion (λ (x : List ℕ × Data). value_at x.0 whole ≡ Some x.1) es → AllByRecursion (λ (x : List ℕ × Data). value_at x.0 (e ∷ whole) ≡ Some x.1) es
 found_past e whole [] other all = tt
 found_past e whole (x ∷ es) other all =
-    let o = or_false (same_text e.0 x.0) (is_among e.0 (names es)) other in
+    let o = or_parts (same_text e.0 x.0) (is_among e.0 (names es)) other in
     (past_head x.0 x.1 e whole (sym (text_turn e.0 x.0) ∙ o.0) all.0, found_past e whole es o.1 all.1)
 
 pub each_found : (es : List (List ℕ × Data)) → has_twice (names es) ≡ false → AllByRecursion (λ (x : List ℕ × Data). value_at x.0 es ≡ Some x.1) es
 each_found [] once = tt
 each_found (e ∷ es) once =
-    let o = or_false (is_among e.0 (names es)) (has_twice (names es)) once in
+    let o = or_parts (is_among e.0 (names es)) (has_twice (names es)) once in
     (ap (λ b. cond b (Some e.1) (value_at e.0 es)) (same_text_self e.0), found_past e es es o.0 (each_found es o.1))
 
 -- what is found is an entry
@@ -99,15 +101,15 @@ place_once : (fs : List Field) (e : List ℕ × Data) (es : List (List ℕ × Da
     → AllByRecursion (λ (y : ℕ × Data). nat_eq (place_of fs e.0) y.0 ≡ false) (by_place fs es)
 place_once fs e [] x known other = tt
 place_once fs e (f ∷ es) x known other =
-    let o = or_false (not (list_any (is_name_of f.0) fs)) (has_stranger fs (names es)) known in
-    let a = or_false (same_text e.0 f.0) (is_among e.0 (names es)) other in
+    let o = or_parts (not (list_any (is_name_of f.0) fs)) (has_stranger fs (names es)) known in
+    let a = or_parts (same_text e.0 f.0) (is_among e.0 (names es)) other in
     (places_apart fs e.0 f.0 x (name_of fs f.0 o.0) a.0, place_once fs e es x o.1 a.1)
 
 places_once : (fs : List Field) (es : List (List ℕ × Data)) → has_stranger fs (names es) ≡ false → has_twice (names es) ≡ false → ComeOnce (by_place fs es)
 places_once fs [] known once = tt
 places_once fs (e ∷ es) known once =
-    let o = or_false (not (list_any (is_name_of e.0) fs)) (has_stranger fs (names es)) known in
-    let a = or_false (is_among e.0 (names es)) (has_twice (names es)) once in
+    let o = or_parts (not (list_any (is_name_of e.0) fs)) (has_stranger fs (names es)) known in
+    let a = or_parts (is_among e.0 (names es)) (has_twice (names es)) once in
     (place_once fs e es (name_of fs e.0 o.0) o.1 a.0, places_once fs es o.1 a.1)
 
 module _ (fs : List Field) (os : List (Option Data)) (es : List (List ℕ × Data)) (apart : AreNamesApart fs)
@@ -124,7 +126,7 @@ module _ (fs : List Field) (os : List (Option Data)) (es : List (List ℕ × Dat
         → AllByRecursion (λ x. slice_get os x.0 ≡ Some (Some x.1)) (by_place fs qs) × AllByRecursion (λ x. x.0 < length fs) (by_place fs qs)
     sound_parts [] known all = (tt, tt)
     sound_parts (q ∷ qs) known all =
-        let o = or_false (not (list_any (is_name_of q.0) fs)) (has_stranger fs (names qs)) known in
+        let o = or_parts (not (list_any (is_name_of q.0) fs)) (has_stranger fs (names qs)) known in
         let one = sound_part q o.0 all.0 in
         let rest = sound_parts qs o.1 all.1 in
         ((one.0, rest.0), (one.1, rest.1))
@@ -166,11 +168,6 @@ numbered_at n (e ∷ ds) (suc i) d at =
     let shift : suc n + i ≡ n + suc i = omega arith in
     numbered_at (suc n) ds i d at ∙ ap (λ (m : ℕ). Some (m, d)) shift
 
-get_below : {A : Type 0} (xs : List A) (i : ℕ) (x : A) → slice_get xs i ≡ Some x → i < length xs
-get_below [] i x at = absurd (none-some x at)
-get_below (y ∷ xs) zero x at = omega arith
-get_below (y ∷ xs) (suc i) x at = let less = get_below xs i x at in omega (arith, less)
-
 numbered_above : (n m : ℕ) (ds : List Data) → n < m → AllByRecursion (λ (y : ℕ × Data). nat_eq n y.0 ≡ false) (numbered m ds)
 numbered_above n m [] less = tt
 numbered_above n m (d ∷ ds) less = (by (nat_eq n m) refl, numbered_above n (suc m) ds (omega (arith, less))) where
@@ -185,7 +182,7 @@ numbered_once n (d ∷ ds) = (numbered_above n (suc n) ds (omega arith), numbere
 pub placed_written : (fs : List Field) (os : List (Option Data)) (ds : List Data) → length ds ≤ length fs → ((i : ℕ) → i < length fs → Placed os i (slice_get ds i)) → Written fs os (numbered 0 ds)
 placed_written fs os ds most there = record { present = present; within = numbered_all (λ x. x.0 < length fs) 0 ds below } where
   below : (i : ℕ) (d : Data) → slice_get ds i ≡ Some d → 0 + i < length fs
-  below i d at = let less = get_below ds i d at in omega (arith, most, less)
+  below i d at = let less = got_below ds i d at in omega (arith, most, less)
 
   sound : (i : ℕ) (d : Data) → slice_get ds i ≡ Some d → slice_get os (0 + i) ≡ Some (Some d)
   sound i d at =
@@ -195,7 +192,7 @@ placed_written fs os ds most there = record { present = present; within = number
 
   whole : (i : ℕ) (f : Field) (d : Data) → slice_get fs i ≡ Some f → slice_get os i ≡ Some (Some d) → (n : ℕ) × (slice_get (numbered 0 ds) n ≡ Some (i, d))
   whole i f d at held =
-      let p = there i (get_below fs i f at) in
+      let p = there i (got_below fs i f at) in
       let same : 0 + i ≡ i = omega arith in
       (i, numbered_at 0 ds i d (p.same ∙ same_Some p.held (Some d) (sym p.at ∙ held)) ∙ ap (λ (m : ℕ). Some (m, d)) same)
 

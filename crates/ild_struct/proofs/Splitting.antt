@@ -29,7 +29,7 @@ pub given_some : (s : List ℕ) → IsGiven s → 0 < length s
 given_some [] h = absurd h
 given_some (c ∷ s) h = omega arith
 
-some_given : (s : List ℕ) → 0 < length s → IsGiven s
+pub some_given : (s : List ℕ) → 0 < length s → IsGiven s
 some_given [] h = absurd (omega arith)
 some_given (c ∷ s) h = tt
 

@@ -4,6 +4,7 @@ use Rattle.std.specs.Prelude.{slice_get, option_and_then}
 use Rattle.std.specs.Prelude.{nat_eq}
 use Rattle.std.proofs.lemmas.Bool.{eqb-true}
 use Rattle.std.proofs.lemmas.Option.{same_Some, none-some}
+use Rattle.ild_layer_piece.proofs.Walking.{not_walked}
 use Rattle.ild_data.specs.Data as T
 use Rattle.ild_data.specs.Data.{Data}
 use Rattle.ild_data.specs.Key.{Rises, value_at}
@@ -60,10 +61,6 @@ use Rattle.ild_struct.proofs.Presenting.{keyed_written, placed_written, tuple_mo
 found_entries : (t : Data) (s : MapEntries) → Maps (members_in t) (Some s) → (es : List (List ℕ × Data)) × (members_in t ≡ Some es) × HasLeft s es
 found_entries (T.map ms) s h = (T.members_list ms, refl, h)
 found_entries t s h = absurd h
-
-no_entries : (t : Data) → Maps (members_in t) None → members_in t ≡ None
-no_entries (T.map ms) h = absurd h
-no_entries t h = refl
 
 found_items : (n : Node) (ds : List Data) (s : Items) → FindsItems n (node_items (T.list (T.items_of ds))) (Some s) → HasItems s (T.items_of ds)
 found_items n ds s h = h.left
@@ -131,7 +128,7 @@ module _ (rows : List Row) (ty : ℕ) (t : Data) (os : List (Option Data)) (part
       let x = shown_map rows parts.fields.def.now.form p t (subst (λ o. FormShows rows parts.fields.def.now.form o t) source h.shows) in
       let made_map : struct_form S.Map fs os ≡ Some t = ap (λ form. struct_form form fs os) (sym x.form_is) ∙ made in
       let y = map_from (λ es. map_data (in_key_order es)) (field_entries fs os) t made_map in
-      let none = no_entries t (found t (subst (λ rs. StandsFor rs p t) (sym h.table) x.stands)) in
+      let none = not_walked t (found t (subst (λ rs. StandsFor rs p t) (sym h.table) x.stands)) in
       none-some _ (sym none ∙ ap members_in (sym (same_Some (map_data (in_key_order y.item)) t y.made)))
 
   pub tuple_starts : (n : Node) (s : Items) → parts.source ≡ O.Tuple n → ((u : Data) → HasData n u → FindsItems n (node_items u) (Some s)) → Starts fs os (R.Tuple s)

@@ -1,15 +1,9 @@
 -- A text has one list of parts, and one list of pairs.
 use Rattle.std.specs.List.{AllByRecursion}
-use Rattle.std.proofs.Common.{◌≡◌, inl, inr, ℕ, ◌+◌, ◌<◌, ◌≤◌, List, [], ◌∷◌, ◌++◌, length, take, drop, map, refl, ap, sym, ◌∙◌, subst, arith}
+use Rattle.std.proofs.Common.{◌≡◌, inl, inr, ℕ, ◌+◌, ◌<◌, ◌≤◌, List, [], ◌∷◌, ◌++◌, length, take, map, refl, ap, sym, ◌∙◌, subst, arith}
 use Rattle.std.proofs.lemmas.List.{append_cancel_left, take_at, drop_at, length-append}
+use Rattle.ild_data.proofs.Heads.{same_string}
 use Rattle.ild_schema.specs.Joins.{Occurs, joined, IsJoint, pair_text, IsPair, IsPairs, OneJoin, OnePairs, JoinsAreApart}
-
--- two lists begin with as many elements: these are the same, and so is what follows
-pub same_front : (xs ys us vs : List ℕ) → length xs ≡ length ys → xs ++ us ≡ ys ++ vs → (xs ≡ ys) × (us ≡ vs)
-same_front xs ys us vs n e = (
-  sym (take_at xs us (length ys) n) ∙ ap (take (length ys)) e ∙ take_at ys vs (length ys) refl,
-  sym (drop_at xs us (length ys) n) ∙ ap (drop (length ys)) e ∙ drop_at ys vs (length ys) refl,
-)
 
 -- no joint stands before the end of the first part
 pub joint_behind : (d p : List ℕ) (ps : List (List ℕ)) (i : ℕ) → IsJoint d (p ∷ ps) i → length p ≤ i
@@ -42,7 +36,7 @@ same_parts d (p ∷ r ∷ ps) (q ∷ s ∷ qs) some one other text all =
     let low : length q ≤ length p = joint_behind d q (s ∷ qs) (length p) ((all (length p)).0 (inl refl)) in
     let high : length p ≤ length q = joint_behind d p (r ∷ ps) (length q) ((all (length q)).1 (inl refl)) in
     let same : length p ≡ length q = omega arith in
-    let parts = same_front p q (d ++ joined d (r ∷ ps)) (d ++ joined d (s ∷ qs)) same text in
+    let parts = same_string p q (d ++ joined d (r ∷ ps)) (d ++ joined d (s ∷ qs)) same text in
     let rest = append_cancel_left d (joined d (r ∷ ps)) (joined d (s ∷ qs)) parts.1 in
     let more = same_parts d (r ∷ ps) (s ∷ qs) some (omega arith) (omega arith) rest (later_same d p q r s ps qs some same all) in
     λ i. parts.0 i ∷ more i
@@ -73,7 +67,7 @@ same_pair d p q a b e =
     let low : length q.0 ≤ length p.0 = b (length p.0) (subst (λ t. Occurs d t (length p.0)) e (occurs_behind d p.0 p.1)) in
     let high : length p.0 ≤ length q.0 = a (length q.0) (subst (λ t. Occurs d t (length q.0)) (sym e) (occurs_behind d q.0 q.1)) in
     let same : length p.0 ≡ length q.0 = omega arith in
-    let parts = same_front p.0 q.0 (d ++ p.1) (d ++ q.1) same e in
+    let parts = same_string p.0 q.0 (d ++ p.1) (d ++ q.1) same e in
     let values = append_cancel_left d p.1 q.1 parts.1 in
     λ i. (parts.0 i, values i)
 

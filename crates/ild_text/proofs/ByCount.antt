@@ -1,11 +1,12 @@
 -- Parts of which there are as many as a text has are the parts that it has.
 use Rattle.std.proofs.Common.{◌≡◌, ◌⊎◌, inl, inr, ℕ, ◌+◌, ◌<◌, ◌≤◌, List, [], ◌∷◌, ◌++◌, length, take, drop, map, refl, ap, sym, ◌∙◌, subst, arith}
 use Rattle.std.proofs.lemmas.List.{append_cancel_left, drop_at, drop-drop, length-map, nil_from_length}
+use Rattle.ild_data.proofs.Heads.{same_string}
 use Rattle.ild_schema.specs.Joins.{Occurs, joined, IsJoint, JoinsByCount, pair_text, PairsByKeys}
-use Rattle.ild_text.proofs.Apart.{same_front, joint_behind, further_on, occurs_behind}
+use Rattle.ild_text.proofs.Apart.{joint_behind, further_on, occurs_behind}
 
 -- at each joint of parts the delimiter occurs
-behind_both : (d p r : List ℕ) (j : ℕ) → drop (length p + length d + j) (p ++ (d ++ r)) ≡ drop j r
+pub behind_both : (d p r : List ℕ) (j : ℕ) → drop (length p + length d + j) (p ++ (d ++ r)) ≡ drop j r
 behind_both d p r j =
     sym (drop-drop j (length p + length d) (p ++ (d ++ r)))
     ∙ ap (drop j) (sym (drop-drop (length d) (length p) (p ++ (d ++ r))) ∙ ap (drop (length d)) (drop_at p (d ++ r) (length p) refl) ∙ drop_at d r (length d) refl)
@@ -71,7 +72,7 @@ as_many d (p ∷ []) (q ∷ s ∷ qs) some one many text all = absurd (omega ari
 as_many d (p ∷ r ∷ ps) (q ∷ []) some one many text all = absurd (omega arith)
 as_many d (p ∷ r ∷ ps) (q ∷ s ∷ qs) some one many text all =
     let same : length p ≡ length q = by_order (order (length p) (length q)) in
-    let parts = same_front p q (d ++ joined d (r ∷ ps)) (d ++ joined d (s ∷ qs)) same text in
+    let parts = same_string p q (d ++ joined d (r ∷ ps)) (d ++ joined d (s ∷ qs)) same text in
     let rest = append_cancel_left d (joined d (r ∷ ps)) (joined d (s ∷ qs)) parts.1 in
     let more = as_many d (r ∷ ps) (s ∷ qs) some (omega arith) (omega arith) rest (later_among d p q r s ps qs 0 0 some (omega arith) all) in
     λ i. parts.0 i ∷ more i
@@ -96,7 +97,7 @@ same_values d (p ∷ ps) [] texts keys = absurd cc
 same_values d (p ∷ ps) (q ∷ qs) texts keys =
     let text : pair_text d p ≡ pair_text d q = cc in
     let key : p.0 ≡ q.0 = cc in
-    let parts = same_front p.0 q.0 (d ++ p.1) (d ++ q.1) (ap length key) text in
+    let parts = same_string p.0 q.0 (d ++ p.1) (d ++ q.1) (ap length key) text in
     let value = append_cancel_left d p.1 q.1 parts.1 in
     let texts_left : map (pair_text d) ps ≡ map (pair_text d) qs = cc in
     let keys_left : map (λ (p : List ℕ × List ℕ). p.0) ps ≡ map (λ (p : List ℕ × List ℕ). p.0) qs = cc in

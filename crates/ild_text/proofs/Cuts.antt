@@ -26,7 +26,7 @@ cut_some d (b ∷ bs) (suc k) = cut_some d bs k
 cut_some d (b ∷ bs) zero = some_chosen (begins d (b ∷ bs)) b (cut_behind d (length d - 1) bs) (cut_behind d 0 bs) (cut_some d bs 0)
 
 -- parts with one in front of them
-joined_more : (d p : List ℕ) (ps : List (List ℕ)) → 1 ≤ length ps → joined d (p ∷ ps) ≡ p ++ (d ++ joined d ps)
+pub joined_more : (d p : List ℕ) (ps : List (List ℕ)) → 1 ≤ length ps → joined d (p ∷ ps) ≡ p ++ (d ++ joined d ps)
 joined_more d p [] one = absurd (omega arith)
 joined_more d p (q ∷ ps) one = refl
 
@@ -43,7 +43,7 @@ joint_further d p [] i j at e = absurd at
 joint_further d p (q ∷ ps) i j at e = inr (j, at, e)
 
 -- parts with a byte in front of them
-joined_onto : (d : List ℕ) (b : ℕ) (ps : List (List ℕ)) → 1 ≤ length ps → joined d (onto b ps) ≡ b ∷ joined d ps
+pub joined_onto : (d : List ℕ) (b : ℕ) (ps : List (List ℕ)) → 1 ≤ length ps → joined d (onto b ps) ≡ b ∷ joined d ps
 joined_onto d b [] one = absurd (omega arith)
 joined_onto d b (p ∷ []) one = refl
 joined_onto d b (p ∷ q ∷ ps) one = refl

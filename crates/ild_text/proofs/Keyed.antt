@@ -5,6 +5,7 @@ use Rattle.std.proofs.lemmas.Bool.Decides.{nat_tests}
 use Rattle.std.specs.List.{AllByRecursion}
 use Rattle.std.proofs.lemmas.List.{length-append}
 use Rattle.std.proofs.lemmas.Option.{slice_get-map}
+use Rattle.std.proofs.lemmas.Bool.{and_parts}
 use Rattle.ild_schema.specs.Joins.{Occurs, Overlap, IsJoin, pair_text, IsPair, IsPairs}
 use Rattle.ild_text.specs.Cut.{cut, halves}
 use Rattle.ild_text.specs.Pairs.{entries, are_keyed, pair_of, pairs_of}
@@ -38,11 +39,6 @@ back_shorter e rest front back some is =
     let p : Halved e rest (front, back) = subst (Parted e rest) (sym is) (parted e rest some) in
     omega (arith, ap length p.whole, length-append front (e ++ back), length-append e back)
 
--- entries with keys are the texts of their pairs
-both_true : (a b : Bool) → (a && b) ≡ true → (a ≡ true) × (b ≡ true)
-both_true true b e = (refl, e)
-both_true false b e = absurd cc
-
 keyed_one : (i e : List ℕ) (o : Option (List ℕ × List ℕ)) → Parted i e o → is_some o ≡ true → (pair_text i (unwrap_or o (e, [])) ≡ e) × IsPair i (unwrap_or o (e, []))
 keyed_one i e None p key = absurd cc
 keyed_one i e (Some h) p key = (sym p.whole, λ at o. p.first at (subst (λ t. Occurs i t at) (sym p.whole) o))
@@ -50,7 +46,7 @@ keyed_one i e (Some h) p key = (sym p.whole, λ at o. p.first at (subst (λ t. O
 keyed_pairs : (i : List ℕ) (es : List (List ℕ)) → 0 < length i → are_keyed i es ≡ true → (map (pair_text i) (map (pair_of i) es) ≡ es) × AllByRecursion (IsPair i) (map (pair_of i) es)
 keyed_pairs i [] some all = (refl, tt)
 keyed_pairs i (e ∷ es) some all =
-    let both = both_true (is_some (halves i e)) (are_keyed i es) all in
+    let both = and_parts (is_some (halves i e)) (are_keyed i es) all in
     let one = keyed_one i e (halves i e) (parted i e some) both.0 in
     let more = keyed_pairs i es some both.1 in
     (λ k. one.0 k ∷ more.0 k, (one.1, more.1))
@@ -113,12 +109,12 @@ slice_get_pair : (i : List ℕ) (es : List (List ℕ)) (k : ℕ) (e : List ℕ) 
 slice_get_pair i [] k e some all at = absurd cc
 slice_get_pair i (x ∷ es) zero e some all at =
     let same : e ≡ x = cc in
-    one e (halves i e) refl (ap (λ y. is_some (halves i y)) same ∙ (both_true (is_some (halves i x)) (are_keyed i es) all).0) ∙ ap (λ y. Some (pair_of i y)) same
+    one e (halves i e) refl (ap (λ y. is_some (halves i y)) same ∙ (and_parts (is_some (halves i x)) (are_keyed i es) all).0) ∙ ap (λ y. Some (pair_of i y)) same
   where
     one : (y : List ℕ) (o : Option (List ℕ × List ℕ)) → halves i y ≡ o → is_some o ≡ true → o ≡ Some (unwrap_or o (y, []))
     one y None e key = absurd cc
     one y (Some h) e key = refl
-slice_get_pair i (x ∷ es) (suc k) e some all at = slice_get_pair i es k e some (both_true (is_some (halves i x)) (are_keyed i es) all).1 at
+slice_get_pair i (x ∷ es) (suc k) e some all at = slice_get_pair i es k e some (and_parts (is_some (halves i x)) (are_keyed i es) all).1 at
 
 pub pair_there : (i e t x : List ℕ) (k : ℕ) → 0 < length i → are_keyed i (entries e t) ≡ true → Some x ≡ slice_get (cut e t) k → halves i x ≡ slice_get (pairs_of i e t) k
 pair_there i e [] x zero some all at = ap (λ (o : Option (List ℕ)). halves i (unwrap_or o [])) at

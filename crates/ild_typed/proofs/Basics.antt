@@ -1,6 +1,6 @@
 -- Options that are there, and functions whose results tell their arguments.
 use Rattle.std.proofs.Common.{◌≡◌, List, [], ◌∷◌, ◌++◌, length, Bool, true, false, cond, Option, Some, None, option_map, refl, sym, ◌∙◌, ap, arith}
-use Rattle.std.specs.Prelude.{option_and_then, ◌&&◌}
+use Rattle.std.specs.Prelude.{option_and_then}
 use Rattle.std.proofs.lemmas.Option.{same_Some, none-some}
 use Rattle.ild_data.specs.Data.{Data}
 use Rattle.ild_typed.specs.Tells.{Tells}
@@ -26,10 +26,6 @@ true_from false a b e = absurd (none-some b e)
 pub if_from : {A : Type 0} (c : Bool) (o : Option A) (b : A) → cond c o None ≡ Some b → (c ≡ true) × (o ≡ Some b)
 if_from true o b e = (refl, e)
 if_from false o b e = absurd (none-some b e)
-
-pub both_true : (a b : Bool) → (a && b) ≡ true → (a ≡ true) × (b ≡ true)
-both_true true b e = (refl, e)
-both_true false b e = absurd cc
 
 -- a function that tells, behind one of which what is there tells
 pub tells_then : {A B : Type 0} (g : A → Option B) (f : B → Option Data) → Tells f

@@ -4,7 +4,7 @@ use Rattle.std.specs.Prelude.{nat_lt, nat_eq, is_none, ℤ, pos, negsuc}
 use Rattle.std.specs.List.{list_any, AllByRecursion}
 use Rattle.std.specs.Cmp.Lexicographic.{same_text as text_same}
 use Rattle.std.proofs.lemmas.Option.{same_Some, none-some}
-use Rattle.std.proofs.lemmas.Bool.{eq-eqb, lt-ltb, le-ltb, ltb-true, ltb-false}
+use Rattle.std.proofs.lemmas.Bool.{eq-eqb, lt-ltb, le-ltb, ltb-true, ltb-false, or_parts, or_from, or_right, or_left}
 use Rattle.ild_data.specs.Data.{Data}
 use Rattle.ild_data.specs.Key.{same_text}
 use Rattle.ild_schema.specs.declared.def.Field.{Field}
@@ -17,7 +17,7 @@ use Rattle.ild_typed.specs.Named.{names, is_among, has_twice}
 use Rattle.ild_typed.specs.StructWhy.{is_name_of, has_stranger, must_stand, lacks_field, place_of, has_fall, is_out_of_order, is_needless, writes_implicit}
 use Rattle.ild_typed.proofs.Entries.{same_text_self}
 use Rattle.ild_typed.proofs.Structs.{scalar_data, written, field_from}
-use Rattle.ild_typed.proofs.Cleans.{or_false, false_or, not_false, not_true, or_right, or_left, or_rest, never, none_pass, pass_none}
+use Rattle.ild_typed.proofs.Cleans.{not_false, not_true, or_rest, never, none_pass, pass_none}
 
 -- no cause holds of names with values
 pub record Fine (fs : List Field) (es : List (List ℕ × Data)) : Type 0 where
@@ -35,16 +35,16 @@ Others f ks = AllByRecursion (λ k. is_name_of k f ≡ false) ks
 known_down : (f : Field) (fs : List Field) (ks : List (List ℕ)) → Others f ks → has_stranger (f ∷ fs) ks ≡ false → has_stranger fs ks ≡ false
 known_down f fs [] others e = refl
 known_down f fs (k ∷ ks) others e =
-    let x = or_false (not (list_any (is_name_of k) (f ∷ fs))) (has_stranger (f ∷ fs) ks) e in
+    let x = or_parts (not (list_any (is_name_of k) (f ∷ fs))) (has_stranger (f ∷ fs) ks) e in
     let here : list_any (is_name_of k) fs ≡ true = or_rest (is_name_of k f) (list_any (is_name_of k) fs) (not_false (list_any (is_name_of k) (f ∷ fs)) x.0) others.0 in
-    false_or (not (list_any (is_name_of k) fs)) (has_stranger fs ks) (not_true (list_any (is_name_of k) fs) here) (known_down f fs ks others.1 x.1)
+    or_from (not (list_any (is_name_of k) fs)) (has_stranger fs ks) (not_true (list_any (is_name_of k) fs) here) (known_down f fs ks others.1 x.1)
 
 known_up : (f : Field) (fs : List Field) (ks : List (List ℕ)) → has_stranger fs ks ≡ false → has_stranger (f ∷ fs) ks ≡ false
 known_up f fs [] e = refl
 known_up f fs (k ∷ ks) e =
-    let x = or_false (not (list_any (is_name_of k) fs)) (has_stranger fs ks) e in
+    let x = or_parts (not (list_any (is_name_of k) fs)) (has_stranger fs ks) e in
     let here = or_right (is_name_of k f) (list_any (is_name_of k) fs) (not_false (list_any (is_name_of k) fs) x.0) in
-    false_or (not (list_any (is_name_of k) (f ∷ fs))) (has_stranger (f ∷ fs) ks) (not_true (list_any (is_name_of k) (f ∷ fs)) here) (known_up f fs ks x.1)
+    or_from (not (list_any (is_name_of k) (f ∷ fs))) (has_stranger (f ∷ fs) ks) (not_true (list_any (is_name_of k) (f ∷ fs)) here) (known_up f fs ks x.1)
 
 place_later : (f : Field) (fs : List Field) (k : List ℕ) → is_name_of k f ≡ false → place_of (f ∷ fs) k ≡ suc (place_of fs k)
 place_later f fs k other = ap (λ b. cond b zero (suc (place_of fs k))) other
@@ -81,13 +81,13 @@ fall_later f fs ks others = ap has_fall (places_later f fs ks others) ∙ fall_s
 
 below_zero : (ns : List ℕ) → list_any (λ m. nat_lt m zero) ns ≡ false
 below_zero [] = refl
-below_zero (n ∷ ns) = false_or (nat_lt n zero) (list_any (λ m. nat_lt m zero) ns) (lt_zero n) (below_zero ns)
+below_zero (n ∷ ns) = or_from (nat_lt n zero) (list_any (λ m. nat_lt m zero) ns) (lt_zero n) (below_zero ns)
 
 -- names behind one that is not the first field's are not the first field's, where none falls
 others_behind : (f : Field) (fs : List Field) (p : ℕ) (ks : List (List ℕ)) → list_any (λ m. nat_lt m (suc p)) (map (place_of (f ∷ fs)) ks) ≡ false → Others f ks
 others_behind f fs p [] e = tt
 others_behind f fs p (k ∷ ks) e =
-    let x = or_false (nat_lt (place_of (f ∷ fs) k) (suc p)) (list_any (λ m. nat_lt m (suc p)) (map (place_of (f ∷ fs)) ks)) e in
+    let x = or_parts (nat_lt (place_of (f ∷ fs) k) (suc p)) (list_any (λ m. nat_lt m (suc p)) (map (place_of (f ∷ fs)) ks)) e in
     (by (is_name_of k f) refl x.0, others_behind f fs p ks x.1)
   where
     by : (b : Bool) → is_name_of k f ≡ b → nat_lt (cond (is_name_of k f) zero (suc (place_of fs k))) (suc p) ≡ false → is_name_of k f ≡ false
@@ -105,7 +105,7 @@ no_other f k (g ∷ gs) all same h = go (is_name_of k g) refl (λ is. no_other f
 others_known : (f : Field) (fs : List Field) (ks : List (List ℕ)) → AllByRecursion (λ g. field_text f ≡ field_text g → ⊥) fs → has_stranger fs ks ≡ false → Others f ks
 others_known f fs [] apart e = tt
 others_known f fs (k ∷ ks) apart e =
-    let x = or_false (not (list_any (is_name_of k) fs)) (has_stranger fs ks) e in
+    let x = or_parts (not (list_any (is_name_of k) fs)) (has_stranger fs ks) e in
     (by (is_name_of k f) refl (not_false (list_any (is_name_of k) fs) x.0), others_known f fs ks apart x.1)
   where
     by : (b : Bool) → is_name_of k f ≡ b → list_any (is_name_of k) fs ≡ true → is_name_of k f ≡ false
@@ -131,16 +131,16 @@ and_false false b e = refl
 needed_down : (f : Field) (fs : List Field) (es : List (List ℕ × Data)) → writes_implicit (f ∷ fs) es ≡ false → writes_implicit fs es ≡ false
 needed_down f fs [] e = refl
 needed_down f fs (x ∷ es) e =
-    let y = or_false (is_needless (f ∷ fs) x) (writes_implicit (f ∷ fs) es) e in
-    let z = or_false (is_name_of x.0 f && is_implicit f.implicit x.1) (is_needless fs x) y.0 in
-    false_or (is_needless fs x) (writes_implicit fs es) z.1 (needed_down f fs es y.1)
+    let y = or_parts (is_needless (f ∷ fs) x) (writes_implicit (f ∷ fs) es) e in
+    let z = or_parts (is_name_of x.0 f && is_implicit f.implicit x.1) (is_needless fs x) y.0 in
+    or_from (is_needless fs x) (writes_implicit fs es) z.1 (needed_down f fs es y.1)
 
 needed_up : (f : Field) (fs : List Field) (es : List (List ℕ × Data)) → Others f (names es) → writes_implicit fs es ≡ false → writes_implicit (f ∷ fs) es ≡ false
 needed_up f fs [] others e = refl
 needed_up f fs (x ∷ es) others e =
-    let y = or_false (is_needless fs x) (writes_implicit fs es) e in
+    let y = or_parts (is_needless fs x) (writes_implicit fs es) e in
     let first : (is_name_of x.0 f && is_implicit f.implicit x.1) ≡ false = ap (λ b. b && is_implicit f.implicit x.1) others.0 in
-    false_or (is_needless (f ∷ fs) x) (writes_implicit (f ∷ fs) es) (false_or (is_name_of x.0 f && is_implicit f.implicit x.1) (is_needless fs x) first y.0) (needed_up f fs es others.1 y.1)
+    or_from (is_needless (f ∷ fs) x) (writes_implicit (f ∷ fs) es) (or_from (is_name_of x.0 f && is_implicit f.implicit x.1) (is_needless fs x) first y.0) (needed_up f fs es others.1 y.1)
 
 -- a name in front, which is no other field's
 among_rest : (g : Field) (k : List ℕ) (ks : List (List ℕ)) → is_name_of k g ≡ false → is_among (field_text g) (k ∷ ks) ≡ is_among (field_text g) ks
@@ -152,7 +152,7 @@ whole_front (g ∷ gs) k ks apart =
     ap (λ b. (must_stand g && not b) || lacks_field gs (k ∷ ks)) (among_rest g k ks apart.0)
     ∙ ap (λ b. (must_stand g && not (is_among (field_text g) ks)) || b) (whole_front gs k ks apart.1)
 
-apart_names : (f : Field) (k : List ℕ) → field_text f ≡ k → (gs : List Field) → AllByRecursion (λ g. field_text f ≡ field_text g → ⊥) gs → AllByRecursion (λ g. is_name_of k g ≡ false) gs
+pub apart_names : (f : Field) (k : List ℕ) → field_text f ≡ k → (gs : List Field) → AllByRecursion (λ g. field_text f ≡ field_text g → ⊥) gs → AllByRecursion (λ g. is_name_of k g ≡ false) gs
 apart_names f k is [] all = tt
 apart_names f k is (g ∷ gs) all = (by (is_name_of k g) refl, apart_names f k is gs all.1) where
   by : (b : Bool) → is_name_of k g ≡ b → is_name_of k g ≡ false
@@ -201,14 +201,14 @@ pub fields_for : (fs : List Field) (es : List (List ℕ × Data)) → AreNamesAp
 fields_for [] [] apart fine = record { fields = []; there = refl }
 fields_for [] (e ∷ es) apart fine = absurd (never fine.known)
 fields_for (f ∷ fs) [] apart fine =
-    let w = or_false (must_stand f && true) (lacks_field fs []) fine.whole in
+    let w = or_parts (must_stand f && true) (lacks_field fs []) fine.whole in
     absent_field f fs [] (and_true_false (must_stand f) true w.0 refl)
     (fields_for fs [] apart.1 (record { known = refl; whole = w.1; order = refl; once = refl; needed = refl }))
 fields_for (f ∷ fs) (e ∷ es) apart fine = by (is_name_of e.0 f) refl (λ qs. fields_for fs qs apart.1) where
   behind : FieldsFor fs es → is_name_of e.0 f ≡ true → FieldsFor (f ∷ fs) (e ∷ es)
   behind x is =
-      let n = or_false (is_needless (f ∷ fs) e) (writes_implicit (f ∷ fs) es) fine.needed in
-      let m = or_false (is_name_of e.0 f && is_implicit f.implicit e.1) (is_needless fs e) n.0 in
+      let n = or_parts (is_needless (f ∷ fs) e) (writes_implicit (f ∷ fs) es) fine.needed in
+      let m = or_parts (is_name_of e.0 f && is_implicit f.implicit e.1) (is_needless fs e) n.0 in
       let kept : is_implicit f.implicit e.1 ≡ false = ap (λ b. b && is_implicit f.implicit e.1) (sym is) ∙ m.0 in
       record {
         fields = Some e.1 ∷ x.fields;
@@ -220,12 +220,12 @@ fields_for (f ∷ fs) (e ∷ es) apart fine = by (is_name_of e.0 f) refl (λ qs.
   by : (b : Bool) → is_name_of e.0 f ≡ b → ((qs : List (List ℕ × Data)) → Fine fs qs → FieldsFor fs qs) → FieldsFor (f ∷ fs) (e ∷ es)
   by true is more =
       let name : field_text f ≡ e.0 = text_same (field_text f) e.0 (sym is) in
-      let t = or_false (is_among e.0 (names es)) (has_twice (names es)) fine.once in
+      let t = or_parts (is_among e.0 (names es)) (has_twice (names es)) fine.once in
       let others : Others f (names es) = among_others f (names es) (ap (λ k. is_among k (names es)) name ∙ t.0) in
-      let k = or_false (not (list_any (is_name_of e.0) (f ∷ fs))) (has_stranger (f ∷ fs) (names es)) fine.known in
-      let w = or_false (must_stand f && not (is_among (field_text f) (e.0 ∷ names es))) (lacks_field fs (e.0 ∷ names es)) fine.whole in
-      let o = or_false (list_any (λ m. nat_lt m (place_of (f ∷ fs) e.0)) (map (place_of (f ∷ fs)) (names es))) (is_out_of_order (f ∷ fs) (names es)) fine.order in
-      let n = or_false (is_needless (f ∷ fs) e) (writes_implicit (f ∷ fs) es) fine.needed in
+      let k = or_parts (not (list_any (is_name_of e.0) (f ∷ fs))) (has_stranger (f ∷ fs) (names es)) fine.known in
+      let w = or_parts (must_stand f && not (is_among (field_text f) (e.0 ∷ names es))) (lacks_field fs (e.0 ∷ names es)) fine.whole in
+      let o = or_parts (list_any (λ m. nat_lt m (place_of (f ∷ fs) e.0)) (map (place_of (f ∷ fs)) (names es))) (is_out_of_order (f ∷ fs) (names es)) fine.order in
+      let n = or_parts (is_needless (f ∷ fs) e) (writes_implicit (f ∷ fs) es) fine.needed in
       behind (more es (record {
         known = known_down f fs (names es) others k.1;
         whole = sym (whole_front fs e.0 (names es) (apart_names f e.0 name fs apart.0)) ∙ w.1;
@@ -234,11 +234,11 @@ fields_for (f ∷ fs) (e ∷ es) apart fine = by (is_name_of e.0 f) refl (λ qs.
         needed = needed_down f fs es n.1;
       })) is
   by false is more =
-      let o = or_false (list_any (λ m. nat_lt m (place_of (f ∷ fs) e.0)) (map (place_of (f ∷ fs)) (names es))) (is_out_of_order (f ∷ fs) (names es)) fine.order in
+      let o = or_parts (list_any (λ m. nat_lt m (place_of (f ∷ fs) e.0)) (map (place_of (f ∷ fs)) (names es))) (is_out_of_order (f ∷ fs) (names es)) fine.order in
       let later : list_any (λ m. nat_lt m (suc (place_of fs e.0))) (map (place_of (f ∷ fs)) (names es)) ≡ false
       = ap (λ p. list_any (λ m. nat_lt m p) (map (place_of (f ∷ fs)) (names es))) (sym (place_later f fs e.0 is)) ∙ o.0 in
       let others : Others f (names (e ∷ es)) = (is, others_behind f fs (place_of fs e.0) (names es) later) in
-      let w = or_false (must_stand f && not (is_among (field_text f) (names (e ∷ es)))) (lacks_field fs (names (e ∷ es))) fine.whole in
+      let w = or_parts (must_stand f && not (is_among (field_text f) (names (e ∷ es)))) (lacks_field fs (names (e ∷ es))) fine.whole in
       absent_field f fs (e ∷ es)
       (and_true_false (must_stand f) (not (is_among (field_text f) (names (e ∷ es)))) w.0 (ap not (others_among f (names (e ∷ es)) others)))
       (more (e ∷ es) (record {
@@ -251,10 +251,10 @@ fields_for (f ∷ fs) (e ∷ es) apart fine = by (is_name_of e.0 f) refl (λ qs.
 
 -- ---- of fields that are there no cause holds
 
-needless_apart : (k : List ℕ) (d : Data) (gs : List Field) → AllByRecursion (λ g. is_name_of k g ≡ false) gs → is_needless gs (k, d) ≡ false
+pub needless_apart : (k : List ℕ) (d : Data) (gs : List Field) → AllByRecursion (λ g. is_name_of k g ≡ false) gs → is_needless gs (k, d) ≡ false
 needless_apart k d [] all = refl
 needless_apart k d (g ∷ gs) all =
-    false_or (is_name_of k g && is_implicit g.implicit d) (is_needless gs (k, d)) (ap (λ b. b && is_implicit g.implicit d) all.0) (needless_apart k d gs all.1)
+    or_from (is_name_of k g && is_implicit g.implicit d) (is_needless gs (k, d)) (ap (λ b. b && is_implicit g.implicit d) all.0) (needless_apart k d gs all.1)
 
 module _ (f : Field) (fs : List Field) (apart : AllByRecursion (λ g. field_text f ≡ field_text g → ⊥) fs) where
   -- a field that is not written
@@ -263,7 +263,7 @@ module _ (f : Field) (fs : List Field) (apart : AllByRecursion (λ g. field_text
       let others = others_known f fs (names es) apart fine.known in
       record {
         known = known_up f fs (names es) fine.known;
-        whole = false_or (must_stand f && not (is_among (field_text f) (names es))) (lacks_field fs (names es))
+        whole = or_from (must_stand f && not (is_among (field_text f) (names es))) (lacks_field fs (names es))
             (ap (λ b. b && not (is_among (field_text f) (names es))) free) fine.whole;
         order = fall_later f fs (names es) others ∙ fine.order;
         once = fine.once;
@@ -279,17 +279,17 @@ module _ (f : Field) (fs : List Field) (apart : AllByRecursion (λ g. field_text
       let self : is_name_of k f ≡ true = same_text_self k in
       let far = apart_names f k refl fs apart in
       record {
-        known = false_or (not (list_any (is_name_of k) (f ∷ fs))) (has_stranger (f ∷ fs) ks)
+        known = or_from (not (list_any (is_name_of k) (f ∷ fs))) (has_stranger (f ∷ fs) ks)
             (not_true (list_any (is_name_of k) (f ∷ fs)) (or_left (is_name_of k f) (list_any (is_name_of k) fs) self)) (known_up f fs ks fine.known);
-        whole = false_or (must_stand f && not (is_among k (k ∷ ks))) (lacks_field fs (k ∷ ks))
+        whole = or_from (must_stand f && not (is_among k (k ∷ ks))) (lacks_field fs (k ∷ ks))
             (and_false (must_stand f) (not (is_among k (k ∷ ks))) (not_true (is_among k (k ∷ ks)) (or_left (same_text k k) (is_among k ks) self)))
             (whole_front fs k ks far ∙ fine.whole);
-        order = false_or (list_any (λ m. nat_lt m (place_of (f ∷ fs) k)) (map (place_of (f ∷ fs)) ks)) (is_out_of_order (f ∷ fs) ks)
+        order = or_from (list_any (λ m. nat_lt m (place_of (f ∷ fs) k)) (map (place_of (f ∷ fs)) ks)) (is_out_of_order (f ∷ fs) ks)
             (ap (λ b. list_any (λ m. nat_lt m (cond b zero (suc (place_of fs k)))) (map (place_of (f ∷ fs)) ks)) self ∙ below_zero (map (place_of (f ∷ fs)) ks))
             (fall_later f fs ks others ∙ fine.order);
-        once = false_or (is_among k ks) (has_twice ks) (others_among f ks others) fine.once;
-        needed = false_or (is_needless (f ∷ fs) (k, d)) (writes_implicit (f ∷ fs) es)
-            (false_or (is_name_of k f && is_implicit f.implicit d) (is_needless fs (k, d)) (and_false (is_name_of k f) (is_implicit f.implicit d) kept) (needless_apart k d fs far))
+        once = or_from (is_among k ks) (has_twice ks) (others_among f ks others) fine.once;
+        needed = or_from (is_needless (f ∷ fs) (k, d)) (writes_implicit (f ∷ fs) es)
+            (or_from (is_name_of k f && is_implicit f.implicit d) (is_needless fs (k, d)) (and_false (is_name_of k f) (is_implicit f.implicit d) kept) (needless_apart k d fs far))
             (needed_up f fs es others fine.needed);
       }
 

@@ -7,6 +7,7 @@ use Rattle.std.specs.Ordering.{match_ordering}
 use Rattle.std.specs.declared.cmp.Ordering.{Ordering}
 use Rattle.std.specs.declared.cmp.Ordering.TheVariants.{Less, Equal, Greater}
 use Rattle.std.proofs.lemmas.Option.{same_Some, none-some}
+use Rattle.std.proofs.lemmas.Bool.{or_parts, or_from}
 use Rattle.ild_data.specs.Data.{Data}
 use Rattle.ild_data.specs.Key.{key_cmp, same_text, value_at, put, Rises}
 use Rattle.ild_schema.specs.declared.def.Field.{Field}
@@ -17,7 +18,7 @@ use Rattle.ild_typed.specs.Named.{names, is_among, has_twice}
 use Rattle.ild_typed.specs.StructWhy.{is_name_of, has_stranger, must_stand, lacks_field, is_needless, writes_implicit}
 use Rattle.ild_typed.proofs.Entries.{value_sorted, same_text_self}
 use Rattle.ild_typed.proofs.Rising.{rises_sorted, below_none, rising_same}
-use Rattle.ild_typed.proofs.Cleans.{or_false, false_or, not_false, or_rest, never, none_pass, pass_none}
+use Rattle.ild_typed.proofs.Cleans.{not_false, or_rest, never, none_pass, pass_none}
 use Rattle.ild_typed.proofs.CleanFields.{Fine, FieldsFor, absent_field, and_true_false}
 
 -- ---- what holds of pairs holds of them in the key order
@@ -37,11 +38,11 @@ module _ (P : List ℕ × Data → Type 0) where
 
 keys_pass : (p : List ℕ → Bool) (es : List (List ℕ × Data)) → list_any p (names es) ≡ false → AllByRecursion (λ (e : List ℕ × Data). p e.0 ≡ false) es
 keys_pass p [] h = tt
-keys_pass p (e ∷ es) h = let x = or_false (p e.0) (list_any p (names es)) h in (x.0, keys_pass p es x.1)
+keys_pass p (e ∷ es) h = let x = or_parts (p e.0) (list_any p (names es)) h in (x.0, keys_pass p es x.1)
 
 pass_keys : (p : List ℕ → Bool) (es : List (List ℕ × Data)) → AllByRecursion (λ (e : List ℕ × Data). p e.0 ≡ false) es → list_any p (names es) ≡ false
 pass_keys p [] all = refl
-pass_keys p (e ∷ es) all = false_or (p e.0) (list_any p (names es)) all.0 (pass_keys p es all.1)
+pass_keys p (e ∷ es) all = or_from (p e.0) (list_any p (names es)) all.0 (pass_keys p es all.1)
 
 -- a name is among those of pairs where a look-up finds it
 pub among_value : (k : List ℕ) (es : List (List ℕ × Data)) → is_among k (names es) ≡ is_some (value_at k es)
@@ -53,7 +54,7 @@ among_value k (e ∷ es) = by (same_text k e.0) (among_value k es) where
 
 pub rises_once : (ms : List (List ℕ × Data)) → Rises ms → has_twice (names ms) ≡ false
 rises_once [] up = refl
-rises_once (m ∷ ms) up = false_or (is_among m.0 (names ms)) (has_twice (names ms)) (among_value m.0 ms ∙ ap is_some (below_none m.0 ms up.0 up.1)) (rises_once ms up.1)
+rises_once (m ∷ ms) up = or_from (is_among m.0 (names ms)) (has_twice (names ms)) (among_value m.0 ms ∙ ap is_some (below_none m.0 ms up.0 up.1)) (rises_once ms up.1)
 
 lacks_same : (fs : List Field) (es qs : List (List ℕ × Data)) → ((k : List ℕ) → value_at k es ≡ value_at k qs) → lacks_field fs (names es) ≡ lacks_field fs (names qs)
 lacks_same [] es qs same = refl
@@ -118,7 +119,7 @@ looked_at q (f ∷ fs) ms = by (value_at (field_text f) ms) refl (is_name_of q f
 pub known_name : (q : List ℕ) (fs : List Field) (ms : List (List ℕ × Data)) → has_stranger fs (names ms) ≡ false → is_among q (names ms) ≡ true → list_any (is_name_of q) fs ≡ true
 known_name q fs [] h k = absurd cc
 known_name q fs (m ∷ ms) h k =
-    let x = or_false (not (list_any (is_name_of m.0) fs)) (has_stranger fs (names ms)) h in
+    let x = or_parts (not (list_any (is_name_of m.0) fs)) (has_stranger fs (names ms)) h in
     by (same_text q m.0) refl x.0 (λ is. known_name q fs ms x.1 (or_rest (same_text q m.0) (is_among q (names ms)) k is))
   where
     by : (b : Bool) → same_text q m.0 ≡ b → not (list_any (is_name_of m.0) fs) ≡ false → (same_text q m.0 ≡ false → list_any (is_name_of q) fs ≡ true) → list_any (is_name_of q) fs ≡ true
@@ -138,8 +139,8 @@ looked_same fs ms known q = looked_at q fs ms ∙ by (list_any (is_name_of q) fs
 kept_at : (f : Field) (fs : List Field) (ms : List (List ℕ × Data)) (d : Data) → writes_implicit (f ∷ fs) ms ≡ false → value_at (field_text f) ms ≡ Some d → is_implicit f.implicit d ≡ false
 kept_at f fs [] d h there = absurd (none-some d there)
 kept_at f fs (m ∷ ms) d h there =
-    let x = or_false (is_needless (f ∷ fs) m) (writes_implicit (f ∷ fs) ms) h in
-    let y = or_false (is_name_of m.0 f && is_implicit f.implicit m.1) (is_needless fs m) x.0 in
+    let x = or_parts (is_needless (f ∷ fs) m) (writes_implicit (f ∷ fs) ms) h in
+    let y = or_parts (is_name_of m.0 f && is_implicit f.implicit m.1) (is_needless fs m) x.0 in
     by (same_text (field_text f) m.0) refl y.0 there (kept_at f fs ms d x.1)
   where
     by : (b : Bool) → same_text (field_text f) m.0 ≡ b → (is_name_of m.0 f && is_implicit f.implicit m.1) ≡ false
@@ -150,14 +151,14 @@ kept_at f fs (m ∷ ms) d h there =
 needed_rest : (f : Field) (fs : List Field) (ms : List (List ℕ × Data)) → writes_implicit (f ∷ fs) ms ≡ false → writes_implicit fs ms ≡ false
 needed_rest f fs [] h = refl
 needed_rest f fs (m ∷ ms) h =
-    let x = or_false (is_needless (f ∷ fs) m) (writes_implicit (f ∷ fs) ms) h in
-    let y = or_false (is_name_of m.0 f && is_implicit f.implicit m.1) (is_needless fs m) x.0 in
-    false_or (is_needless fs m) (writes_implicit fs ms) y.1 (needed_rest f fs ms x.1)
+    let x = or_parts (is_needless (f ∷ fs) m) (writes_implicit (f ∷ fs) ms) h in
+    let y = or_parts (is_name_of m.0 f && is_implicit f.implicit m.1) (is_needless fs m) x.0 in
+    or_from (is_needless fs m) (writes_implicit fs ms) y.1 (needed_rest f fs ms x.1)
 
 looked_for : (fs : List Field) (ms : List (List ℕ × Data)) → lacks_field fs (names ms) ≡ false → writes_implicit fs ms ≡ false → FieldsFor fs (looked fs ms)
 looked_for [] ms whole needed = record { fields = []; there = refl }
 looked_for (f ∷ fs) ms whole needed =
-    let w = or_false (must_stand f && not (is_among (field_text f) (names ms))) (lacks_field fs (names ms)) whole in
+    let w = or_parts (must_stand f && not (is_among (field_text f) (names ms))) (lacks_field fs (names ms)) whole in
     by (value_at (field_text f) ms) refl w.0 (looked_for fs ms w.1 (needed_rest f fs ms needed))
   where
     by : (o : Option Data) → value_at (field_text f) ms ≡ o → (must_stand f && not (is_among (field_text f) (names ms))) ≡ false

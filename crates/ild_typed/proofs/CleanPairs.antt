@@ -3,7 +3,7 @@ use Rattle.std.proofs.Common.{◌≡◌, ℕ, zero, suc, List, [], ◌∷◌, le
 use Rattle.std.specs.Prelude.{nat_lt, nat_eq, drop}
 use Rattle.std.specs.List.{list_any}
 use Rattle.std.proofs.lemmas.Option.{same_Some, none-some}
-use Rattle.std.proofs.lemmas.Bool.{eqb-true}
+use Rattle.std.proofs.lemmas.Bool.{eqb-true, and_parts, or_parts, or_from}
 use Rattle.ild_data.specs.Data as T
 use Rattle.ild_data.specs.Data.{Data}
 use Rattle.ild_data.proofs.Lists.{items_list-items_of}
@@ -16,8 +16,8 @@ use Rattle.ild_typed.specs.Fields.{are_absent, tuple_items}
 use Rattle.ild_typed.specs.Strings.{pair_data, listpairs}
 use Rattle.ild_typed.specs.Named.{is_text, has_name, is_pair, pair_names, pair_entries, is_two, has_odd_pair, has_odd_count, names}
 use Rattle.ild_typed.specs.StructWhy.{names_in, entries_in, misses_items}
-use Rattle.ild_typed.proofs.Basics.{map_from, true_from, both_true}
-use Rattle.ild_typed.proofs.Cleans.{or_false, false_or, not_false, never}
+use Rattle.ild_typed.proofs.Basics.{map_from, true_from}
+use Rattle.ild_typed.proofs.Cleans.{not_false, never}
 use Rattle.ild_typed.proofs.CleanFields.{lt_suc, lt_zero, zero_lt}
 
 -- ---- what pairs show
@@ -78,8 +78,8 @@ pub record PairsOf (t : Data) : Type 0 where
 as_pairs : (ds : T.Items) → list_any (λ d. not (is_pair d)) (T.items_list ds) ≡ false → list_any (λ d. not (is_two d)) (T.items_list ds) ≡ false → PairsOf (T.list ds)
 as_pairs T.no_items p q = record { entries = []; is = refl }
 as_pairs (T.item d ds) p q =
-    let x = or_false (not (is_pair d)) (list_any (λ c. not (is_pair c)) (T.items_list ds)) p in
-    let y = or_false (not (is_two d)) (list_any (λ c. not (is_two c)) (T.items_list ds)) q in
+    let x = or_parts (not (is_pair d)) (list_any (λ c. not (is_pair c)) (T.items_list ds)) p in
+    let y = or_parts (not (is_two d)) (list_any (λ c. not (is_two c)) (T.items_list ds)) q in
     let first = as_pair d (not_false (is_pair d) x.0) (not_false (is_two d) y.0) in
     let rest = as_pairs ds x.1 y.1 in
     record {
@@ -103,21 +103,21 @@ tuple_fine [] (o ∷ os) ds e = absurd (none-some ds e)
 tuple_fine (f ∷ fs) [] ds e = absurd (none-some ds e)
 tuple_fine (f ∷ fs) (Some d ∷ os) ds e =
     let x = map_from (λ xs. d ∷ xs) (tuple_items fs os) ds e in
-    let rest = or_false (nat_lt (length fs) (length x.item)) (list_any (λ (g : Field). not g.optional) (drop (length x.item) fs)) (tuple_fine fs os x.item x.there) in
+    let rest = or_parts (nat_lt (length fs) (length x.item)) (list_any (λ (g : Field). not g.optional) (drop (length x.item) fs)) (tuple_fine fs os x.item x.there) in
     ap (misses_items (f ∷ fs)) (sym (same_Some (d ∷ x.item) ds x.made))
-    ∙ false_or (nat_lt (suc (length fs)) (suc (length x.item))) (list_any (λ (g : Field). not g.optional) (drop (length x.item) fs)) (lt_suc (length fs) (length x.item) ∙ rest.0) rest.1
+    ∙ or_from (nat_lt (suc (length fs)) (suc (length x.item))) (list_any (λ (g : Field). not g.optional) (drop (length x.item) fs)) (lt_suc (length fs) (length x.item) ∙ rest.0) rest.1
 tuple_fine (f ∷ fs) (None ∷ os) ds e =
     let x = true_from (are_absent (f ∷ fs) (None ∷ os)) [] ds e in
     ap (misses_items (f ∷ fs)) (sym x.1)
-    ∙ false_or (nat_lt (length (f ∷ fs)) 0) (list_any (λ (g : Field). not g.optional) (f ∷ fs)) (lt_zero (length (f ∷ fs))) (all_optional (f ∷ fs) (None ∷ os) x.0)
+    ∙ or_from (nat_lt (length (f ∷ fs)) 0) (list_any (λ (g : Field). not g.optional) (f ∷ fs)) (lt_zero (length (f ∷ fs))) (all_optional (f ∷ fs) (None ∷ os) x.0)
   where
     all_optional : (gs : List Field) (ps : List (Option Data)) → are_absent gs ps ≡ true → list_any (λ (g : Field). not g.optional) gs ≡ false
     all_optional [] ps h = refl
     all_optional (g ∷ gs) [] h = absurd cc
     all_optional (g ∷ gs) (Some d ∷ ps) h = absurd cc
     all_optional (g ∷ gs) (None ∷ ps) h =
-        let y = both_true g.optional (are_absent gs ps) h in
-        false_or (not g.optional) (list_any (λ (k : Field). not k.optional) gs) (ap not y.0) (all_optional gs ps y.1)
+        let y = and_parts g.optional (are_absent gs ps) h in
+        or_from (not g.optional) (list_any (λ (k : Field). not k.optional) gs) (ap not y.0) (all_optional gs ps y.1)
 
 pub record TupleOf (fs : List Field) (ds : List Data) : Type 0 where
   pub fields : List (Option Data)
@@ -130,18 +130,18 @@ none_of_them (f ∷ fs) = None ∷ none_of_them fs
 absent_there : (fs : List Field) → list_any (λ (g : Field). not g.optional) fs ≡ false → are_absent fs (none_of_them fs) ≡ true
 absent_there [] e = refl
 absent_there (f ∷ fs) e =
-    let x = or_false (not f.optional) (list_any (λ (g : Field). not g.optional) fs) e in
+    let x = or_parts (not f.optional) (list_any (λ (g : Field). not g.optional) fs) e in
     ap (λ b. b && are_absent fs (none_of_them fs)) (not_false f.optional x.0) ∙ absent_there fs x.1
 
 pub tuple_for : (fs : List Field) (ds : List Data) → misses_items fs ds ≡ false → TupleOf fs ds
 tuple_for [] [] e = record { fields = []; there = refl }
 tuple_for [] (d ∷ ds) e =
-    let x = or_false (nat_lt zero (suc (length ds))) (list_any (λ (g : Field). not g.optional) (drop (suc (length ds)) [])) e in
+    let x = or_parts (nat_lt zero (suc (length ds))) (list_any (λ (g : Field). not g.optional) (drop (suc (length ds)) [])) e in
     absurd (never (sym (zero_lt (length ds)) ∙ x.0))
 tuple_for (f ∷ fs) [] e =
-    let x = or_false (nat_lt (length (f ∷ fs)) 0) (list_any (λ (g : Field). not g.optional) (f ∷ fs)) e in
+    let x = or_parts (nat_lt (length (f ∷ fs)) 0) (list_any (λ (g : Field). not g.optional) (f ∷ fs)) e in
     record { fields = none_of_them (f ∷ fs); there = ap (λ b. cond b (Some []) None) (absent_there (f ∷ fs) x.1) }
 tuple_for (f ∷ fs) (d ∷ ds) e =
-    let x = or_false (nat_lt (suc (length fs)) (suc (length ds))) (list_any (λ (g : Field). not g.optional) (drop (length ds) fs)) e in
-    let rest = tuple_for fs ds (false_or (nat_lt (length fs) (length ds)) (list_any (λ (g : Field). not g.optional) (drop (length ds) fs)) (sym (lt_suc (length fs) (length ds)) ∙ x.0) x.1) in
+    let x = or_parts (nat_lt (suc (length fs)) (suc (length ds))) (list_any (λ (g : Field). not g.optional) (drop (length ds) fs)) e in
+    let rest = tuple_for fs ds (or_from (nat_lt (length fs) (length ds)) (list_any (λ (g : Field). not g.optional) (drop (length ds) fs)) (sym (lt_suc (length fs) (length ds)) ∙ x.0) x.1) in
     record { fields = Some d ∷ rest.fields; there = ap (option_map (λ xs. d ∷ xs)) rest.there }

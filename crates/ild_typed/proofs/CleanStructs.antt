@@ -2,7 +2,7 @@
 use Rattle.std.proofs.Common.{◌≡◌, ℕ, suc, List, [], ◌∷◌, length, map, Bool, true, false, cond, ◌&&◌, not, Option, Some, None, option_map, refl, sym, ◌∙◌, ap, subst, arith}
 use Rattle.std.specs.Prelude.{nat_eq, option_and_then}
 use Rattle.std.proofs.lemmas.Option.{same_Some}
-use Rattle.std.proofs.lemmas.Bool.{eq-eqb, eqb-true}
+use Rattle.std.proofs.lemmas.Bool.{eq-eqb, eqb-true, and_parts}
 use Rattle.ild_data.specs.Data as T
 use Rattle.ild_data.specs.Data.{Data}
 use Rattle.ild_data.proofs.Lists.{items_list-items_of, items_of-items_list, members_list-members_of, members_of-members_list}
@@ -128,7 +128,7 @@ texts_there : (ps : List (List ℕ)) → texts_in (as_texts ps) ≡ Some ps
 texts_there [] = refl
 texts_there (p ∷ ps) = ap (cons_both (Some p)) (texts_there ps)
 
-texts_count : (ds : List Data) (ps : List (List ℕ)) → texts_in ds ≡ Some ps → length ps ≡ length ds
+pub texts_count : (ds : List Data) (ps : List (List ℕ)) → texts_in ds ≡ Some ps → length ps ≡ length ds
 texts_count [] ps h = ap length (sym (same_Some [] ps h))
 texts_count (d ∷ ds) ps h =
     let b = both_from (text_in d) (texts_in ds) ps h in
@@ -155,10 +155,6 @@ joined_fine delim (f ∷ fs) given (p ∷ ps) s n h =
     let split : is_split delim s ≡ true = gives_it s (join delim (parted delim s)) (ap (join delim) cuts ∙ h) in
     let many : nat_eq (length (parted delim s)) (length (f ∷ fs)) ≡ true = eq-eqb (length (parted delim s)) (length (f ∷ fs)) (ap length cuts ∙ n) in
     ap (λ b. not (b && nat_eq (length (parted delim s)) (length (f ∷ fs)))) split ∙ ap not many
-
-both_parts : (a b : Bool) → (a && b) ≡ true → (a ≡ true) × (b ≡ true)
-both_parts true b e = (refl, e)
-both_parts false b e = absurd cc
 
 -- ---- each form
 
@@ -261,7 +257,7 @@ struct_for (S.StringPairs inner entry) fs clear delims t up k c =
     }) in
     record { fields = y.fields; there = ap (option_and_then (stringpairs inner entry)) y.there ∙ x.there }
 struct_for (S.StringJoin delim) fs clear delims (T.text s) up k c =
-    let h = both_parts (is_split delim s) (nat_eq (length (parted delim s)) (length fs)) (not_false (is_split delim s && nat_eq (length (parted delim s)) (length fs)) c.delimiter) in
+    let h = and_parts (is_split delim s) (nat_eq (length (parted delim s)) (length fs)) (not_false (is_split delim s && nat_eq (length (parted delim s)) (length fs)) c.delimiter) in
     let many : length (parted delim s) ≡ length fs = eqb-true (length (parted delim s)) (length fs) h.1 in
     let x = items_for fs (as_texts (parted delim s)) (length_map (parted delim s) ∙ many) in
     record {

@@ -3,13 +3,13 @@ use Rattle.std.proofs.Common.{◌≡◌, ℕ, zero, suc, ◌+◌, ◌-◌, ◌�
 use Rattle.std.specs.List.{list_all, AllByRecursion}
 use Rattle.std.specs.Cmp.Lexicographic.{same_text as text_same}
 use Rattle.std.proofs.lemmas.Option.{same_Some, none-some}
-use Rattle.std.proofs.lemmas.Bool.{eq-eqb, eqb-true}
+use Rattle.std.proofs.lemmas.Bool.{eq-eqb, eqb-true, and_parts}
 use Rattle.ild_schema.specs.Prefixes.{begins}
 use Rattle.ild_typed.specs.Texts.{places, joints, join, is_first, is_parted, join_pairs}
 use Rattle.ild_schema.specs.Joins.{joined, pair_text}
 use Rattle.ild_schema.specs.Clear.{IsGiven}
 use Rattle.ild_typed.specs.Cuts.{begin_first, cut, parted, before, pair_in, pairs_in, gives}
-use Rattle.ild_typed.proofs.Basics.{if_from, both_true}
+use Rattle.ild_typed.proofs.Basics.{if_from}
 use Rattle.ild_typed.proofs.Entries.{same_text_self}
 use Rattle.ild_typed.proofs.Joints.{join_says}
 
@@ -171,7 +171,7 @@ pair_again (e ∷ tail) given p h =
 pairs_again : (inner : List ℕ) → IsGiven inner → (ps : List (List ℕ × List ℕ)) → list_all (is_parted inner) ps ≡ true → map (pair_in inner) (map (pair_text inner) ps) ≡ ps
 pairs_again inner given [] h = refl
 pairs_again inner given (p ∷ ps) h =
-    let x = both_true (is_parted inner p) (list_all (is_parted inner) ps) h in
+    let x = and_parts (is_parted inner p) (list_all (is_parted inner) ps) h in
     let first = pair_again inner given p x.0 in
     let rest = pairs_again inner given ps x.1 in
     λ i. first i ∷ rest i

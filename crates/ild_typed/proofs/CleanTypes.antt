@@ -4,6 +4,7 @@ use Rattle.std.specs.Prelude.{option_and_then, slice_get, unwrap_or}
 use Rattle.std.specs.List.{list_any}
 use Rattle.std.specs.Cmp.Lexicographic.{same_text as text_same}
 use Rattle.std.proofs.lemmas.Option.{same_Some, none-some}
+use Rattle.std.proofs.lemmas.Bool.{or_parts}
 use Rattle.ild_data.specs.Data as T
 use Rattle.ild_data.specs.Data.{Data}
 use Rattle.ild_data.proofs.Lists.{items_of-items_list, members_of-members_list}
@@ -18,7 +19,7 @@ use Rattle.ild_schema.specs.declared.def.EnumForm.TheVariants as E
 use Rattle.ild_schema.specs.declared.def.EnumMember.{EnumMember}
 use Rattle.ild_schema.specs.declared.def.KindWord.TheVariants as K
 use Rattle.ild_typed.specs.Layer as L
-use Rattle.ild_typed.specs.Layer.{Layer, as_list, as_map, as_struct, as_union, as_enum, as_unit}
+use Rattle.ild_typed.specs.Layer.{Layer, as_map, as_struct, as_union, as_enum, as_unit}
 use Rattle.ild_typed.specs.Kinds.{kind_word_of}
 use Rattle.ild_schema.specs.DataKinds.{same_kind, has_kind, map_kind, unit_kind}
 use Rattle.ild_schema.specs.Decimal.{decimal_of}
@@ -34,7 +35,7 @@ use Rattle.ild_typed.proofs.Basics.{map_from, then_from}
 use Rattle.ild_typed.proofs.Structs.{int_same}
 use Rattle.ild_typed.proofs.Entries.{same_text_self}
 use Rattle.ild_typed.proofs.OfKinds.{any_at, composed_kind, alone_kind}
-use Rattle.ild_typed.proofs.Cleans.{Clean, clean_of, none_of, or_false, not_false, not_true, kind_fine, found}
+use Rattle.ild_typed.proofs.Cleans.{Clean, clean_of, none_of, not_false, not_true, kind_fine, found}
 use Rattle.ild_typed.proofs.CleanFields.{int_self}
 use Rattle.ild_typed.proofs.CleanPairs.{pairs_even, pairs_count, pairs_of_data}
 use Rattle.ild_typed.proofs.CleanStructs.{struct_clean, struct_for, split_of_pairs, string_of_data}
@@ -277,10 +278,10 @@ pub record LayerFor (d : TypeDef) (t : Data) : Type 0 where
   pub there : composed alone d layer ≡ Some t
 
 kind_of_clean : (d : TypeDef) (t : Data) → Clean d t → has_kind d (kind_word_of t) ≡ true
-kind_of_clean d t c = not_false (has_kind d (kind_word_of t)) (or_false (not (has_kind d (kind_word_of t))) (is_kind_why d t) c.kind).0
+kind_of_clean d t c = not_false (has_kind d (kind_word_of t)) (or_parts (not (has_kind d (kind_word_of t))) (is_kind_why d t) c.kind).0
 
 own_kind : (d : TypeDef) (t : Data) → Clean d t → is_kind_why d t ≡ false
-own_kind d t c = (or_false (not (has_kind d (kind_word_of t))) (is_kind_why d t) c.kind).1
+own_kind d t c = (or_parts (not (has_kind d (kind_word_of t))) (is_kind_why d t) c.kind).1
 
 bool_for : (t : Data) → same_kind K.Bool (kind_word_of t) ≡ true → LayerFor D.Bool t
 bool_for (T.boolean b) k = record { layer = L.boolean b; there = refl }
@@ -321,7 +322,7 @@ unit_for U.EmptyMap (T.map T.no_members) k n m = record { layer = L.unit; there 
 unit_for U.EmptyMap (T.map (T.member l d ms)) k n m = absurd cc
 unit_for U.EmptyMap t k n m = absurd cc
 
-value_is : (o : Option Data) (t : Data) → is_value o t ≡ true → o ≡ Some t
+pub value_is : (o : Option Data) (t : Data) → is_value o t ≡ true → o ≡ Some t
 value_is (Some (T.text a)) (T.text b) h = ap (λ s. Some (T.text s)) (text_same a b (sym h))
 value_is (Some (T.integer a)) (T.integer b) h = ap (λ n. Some (T.integer n)) (int_same a b h)
 value_is o t h = absurd cc

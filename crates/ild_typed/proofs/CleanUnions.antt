@@ -4,7 +4,7 @@ use Rattle.std.specs.Prelude.{nat_eq, is_none, is_some, option_and_then, slice_g
 use Rattle.std.specs.List.{list_any}
 use Rattle.std.specs.Cmp.Lexicographic.{same_text as text_same, other_text}
 use Rattle.std.proofs.lemmas.Option.{same_Some, none-some}
-use Rattle.std.proofs.lemmas.Bool.{eqb-true}
+use Rattle.std.proofs.lemmas.Bool.{eqb-true, or_parts, or_from, or_left, or_right}
 use Rattle.ild_data.specs.Data as T
 use Rattle.ild_data.specs.Data.{Data}
 use Rattle.ild_data.specs.Key.{same_text, value_at, put, without, Rises}
@@ -27,7 +27,7 @@ use Rattle.ild_typed.proofs.Basics.{then_from, map_from, true_from}
 use Rattle.ild_typed.proofs.Entries.{value_put, value_first, same_text_self, only_text_data}
 use Rattle.ild_typed.proofs.Rising.{rising_same, value_without}
 use Rattle.ild_typed.proofs.OfKinds.{any_at}
-use Rattle.ild_typed.proofs.Cleans.{or_false, false_or, not_false, not_true, or_left, or_right, or_rest, never, pass_none, Found, found}
+use Rattle.ild_typed.proofs.Cleans.{not_false, not_true, or_rest, never, pass_none, Found, found}
 use Rattle.ild_typed.proofs.CleanMaps.{all_put, among_value}
 use Rattle.ild_typed.proofs.CleanTexts.{begins_itself}
 use Rattle.ild_typed.specs.WhyLaws.{KeysRise}
@@ -51,7 +51,7 @@ module _ (ms : List Member) (n : ℕ) (m : Member) (s : List ℕ) (there : slice
     missing = refl;
     count = refl;
     prefix = refl;
-    member = false_or (not (is_discriminant ms s)) false (not_true (is_discriminant ms s) (its_text ms n m s there text)) refl;
+    member = or_from (not (is_discriminant ms s)) false (not_true (is_discriminant ms s) (its_text ms n m s there text)) refl;
   }
 
   -- the discriminant stands under the key
@@ -79,7 +79,7 @@ module _ (ms : List Member) (n : ℕ) (m : Member) (s : List ℕ) (there : slice
       record {
         name = ap (list_any odd) back
             ∙ pass_none odd (put key (T.text s) ((content, d) ∷ [])) (all_put (λ e. odd e ≡ false) key (T.text s) ((content, d) ∷ []) key_fine (content_fine, tt));
-        missing = false_or (is_none (value_at key (T.members_list (T.members_of (put key (T.text s) ((content, d) ∷ []))))))
+        missing = or_from (is_none (value_at key (T.members_list (T.members_of (put key (T.text s) ((content, d) ∷ []))))))
             (is_none (value_at content (T.members_list (T.members_of (put key (T.text s) ((content, d) ∷ []))))))
             (ap is_none (found_key key ((content, d) ∷ [])))
             (ap (λ es. is_none (value_at content es)) back ∙ ap is_none (value_put content key (T.text s) ((content, d) ∷ [])) ∙ either (same_text content key) (same_text content content) (same_text_self content));
@@ -235,7 +235,7 @@ bytes_for ms s e =
 keyed_for : (ms : List Member) (es : T.Members) → UnionClean UF.Keyed ms (T.map es) → UnionFor UF.Keyed ms (T.map es)
 keyed_for ms T.no_members c = absurd (never c.count)
 keyed_for ms (T.member k d T.no_members) c =
-    let h = or_false (not (is_discriminant ms k)) false c.member in
+    let h = or_parts (not (is_discriminant ms k)) false c.member in
     let x = marked_by ms k (not_false (is_discriminant ms k) h.0) in
     record {
       member = x.place;
@@ -296,7 +296,7 @@ one_of_two : (key content q : List ℕ) (es : List (List ℕ × Data)) → list_
     → is_among q (names es) ≡ true → (same_text key q || same_text content q) ≡ true
 one_of_two key content q [] odd k = absurd cc
 one_of_two key content q (e ∷ es) odd k =
-    let x = or_false (not (same_text key e.0 || same_text content e.0)) (list_any (λ (a : List ℕ × Data). not (same_text key a.0 || same_text content a.0)) es) odd in
+    let x = or_parts (not (same_text key e.0 || same_text content e.0)) (list_any (λ (a : List ℕ × Data). not (same_text key a.0 || same_text content a.0)) es) odd in
     by (same_text q e.0) refl (not_false (same_text key e.0 || same_text content e.0) x.0)
     (λ is. one_of_two key content q es x.1 (or_rest (same_text q e.0) (is_among q (names es)) k is))
   where
@@ -308,7 +308,7 @@ one_of_two key content q (e ∷ es) odd k =
 envelope_for : (key content : List ℕ) (ms : List Member) (es : T.Members) → Rises (T.members_list es) → UnionClean (UF.Envelope key content) ms (T.map es) → UnionFor (UF.Envelope key content) ms (T.map es)
 envelope_for key content ms es up c =
     let xs = T.members_list es in
-    let m = or_false (is_none (value_at key xs)) (is_none (value_at content xs)) c.missing in
+    let m = or_parts (is_none (value_at key xs)) (is_none (value_at content xs)) c.missing in
     let x = told ms key xs m.0 c.member in
     let y = value_there (value_at content xs) m.1 in
     let ys = put key (T.text x.text) ((content, y.0) ∷ []) in
@@ -337,7 +337,7 @@ envelope_for key content ms es up c =
     by q s d there inside false false is also None h = refl
     by q s d there inside false false is also (Some v) h =
         let two = one_of_two key content q (T.members_list es) c.name (among_value q (T.members_list es) ∙ ap is_some h) in
-        absurd (never (sym two ∙ false_or (same_text key q) (same_text content q) (flip q key is) (flip q content also)))
+        absurd (never (sym two ∙ or_from (same_text key q) (same_text content q) (flip q key is) (flip q content also)))
 
 pub union_for : (form : UnionForm) (ms : List Member) (t : Data) → KeysRise t → union_has form ms (kind_word_of t) ≡ true → UnionClean form ms t → UnionFor form ms t
 union_for UF.Keyed ms (T.map es) up k c = keyed_for ms es c

@@ -3,6 +3,7 @@ use Rattle.std.proofs.Common.{◌≡◌, ℕ, zero, suc, List, [], ◌∷◌, Bo
 use Rattle.std.specs.Prelude.{slice_get}
 use Rattle.std.specs.List.{list_any, AllByRecursion}
 use Rattle.std.proofs.lemmas.Option.{none-some}
+use Rattle.std.proofs.lemmas.Bool.{or_parts, or_from}
 use Rattle.ild_data.specs.Data.{Data}
 use Rattle.ild_schema.specs.declared.def.TypeDef.{TypeDef}
 use Rattle.ild_typed.specs.Why as W
@@ -56,14 +57,6 @@ none_of d t c =
 
 -- ---- Bools
 
-pub or_false : (a b : Bool) → (a || b) ≡ false → (a ≡ false) × (b ≡ false)
-or_false true b e = absurd cc
-or_false false b e = (refl, e)
-
-pub false_or : (a b : Bool) → a ≡ false → b ≡ false → (a || b) ≡ false
-false_or true b e k = absurd cc
-false_or false b e k = k
-
 pub not_false : (b : Bool) → not b ≡ false → b ≡ true
 not_false true e = refl
 not_false false e = absurd cc
@@ -71,14 +64,6 @@ not_false false e = absurd cc
 pub not_true : (b : Bool) → b ≡ true → not b ≡ false
 not_true true e = refl
 not_true false e = absurd cc
-
-pub or_right : (a b : Bool) → b ≡ true → (a || b) ≡ true
-or_right true b e = refl
-or_right false b e = e
-
-pub or_left : (a b : Bool) → a ≡ true → (a || b) ≡ true
-or_left true b e = refl
-or_left false b e = absurd cc
 
 pub or_rest : (a b : Bool) → (a || b) ≡ true → a ≡ false → b ≡ true
 or_rest true b e k = absurd cc
@@ -95,11 +80,11 @@ kind_fine false c e k = absurd cc
 
 pub none_pass : {A : Type 0} (p : A → Bool) (xs : List A) → list_any p xs ≡ false → AllByRecursion (λ x. p x ≡ false) xs
 none_pass p [] e = tt
-none_pass p (x ∷ xs) e = let y = or_false (p x) (list_any p xs) e in (y.0, none_pass p xs y.1)
+none_pass p (x ∷ xs) e = let y = or_parts (p x) (list_any p xs) e in (y.0, none_pass p xs y.1)
 
 pub pass_none : {A : Type 0} (p : A → Bool) (xs : List A) → AllByRecursion (λ x. p x ≡ false) xs → list_any p xs ≡ false
 pass_none p [] all = refl
-pass_none p (x ∷ xs) all = false_or (p x) (list_any p xs) all.0 (pass_none p xs all.1)
+pass_none p (x ∷ xs) all = or_from (p x) (list_any p xs) all.0 (pass_none p xs all.1)
 
 pub record Found {A : Type 0} (p : A → Bool) (xs : List A) : Type 0 where
   pub place : ℕ

@@ -58,7 +58,7 @@ any_says (T.list ds) t e = same_Some (T.list ds) t e
 any_says (T.map ms) t e = same_Some (T.map ms) t e
 any_says (T.link s) t e = same_Some (T.link s) t e
 
-a_map_says : (d t : Data) → a_map d ≡ Some t → d ≡ t
+pub a_map_says : (d t : Data) → a_map d ≡ Some t → d ≡ t
 a_map_says (T.map ms) t e = same_Some (T.map ms) t e
 a_map_says d t e = absurd (none-some t e)
 

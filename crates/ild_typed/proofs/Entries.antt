@@ -1,9 +1,9 @@
 -- Data of lists, of pairs and of texts tell what is in them; a look-up in sorted pairs.
-use Rattle.std.proofs.Common.{◌≡◌, ℕ, List, [], ◌∷◌, map, Bool, true, false, cond, Option, Some, None, option_map, refl, sym, ◌∙◌, ap}
+use Rattle.std.proofs.Common.{◌≡◌, ℕ, List, [], ◌∷◌, map, true, cond, Option, Some, None, option_map, refl, sym, ◌∙◌, ap}
 use Rattle.std.proofs.lemmas.Option.{same_Some, none-some}
 use Rattle.ild_data.specs.Data as T
 use Rattle.ild_data.specs.Data.{Data}
-use Rattle.ild_data.specs.Key.{same_text, put, value_at}
+use Rattle.ild_data.specs.Key.{same_text, value_at}
 use Rattle.ild_data.proofs.Rising.{key_equal, agrees}
 pub use Rattle.ild_schema.proofs.Puts.{swap, value_put}
 use Rattle.ild_typed.specs.Strings.{text_in, bytes_in, cons_both, texts_in, text_pairs, in_key_order, map_data, pair_data, listpairs}

@@ -1,8 +1,8 @@
 -- The form of the type that a layer fits.
-use Rattle.std.proofs.Common.{◌≡◌, ℕ, zero, suc, ◌<◌, List, [], ◌∷◌, slice_get, Bool, Option, Some, None, refl, ap, subst, arith, inl, inr}
-use Rattle.std.specs.Prelude.{ℤ, IsSomeAnd, IsUtf8, length}
+use Rattle.std.proofs.Common.{◌≡◌, ℕ, List, slice_get, Bool, Option, Some, None, refl, ap, subst, inl, inr}
+use Rattle.std.specs.Prelude.{ℤ, IsSomeAnd, IsUtf8}
 use Rattle.std.specs.List.{AllByRecursion}
-use Rattle.std.proofs.lemmas.Option.{none-some}
+use Rattle.ild_data.proofs.Gets.{there_at}
 use Rattle.ild_data.specs.Data.{Data}
 use Rattle.ild_data.specs.Tree.{IsTree}
 use Rattle.ild_data.specs.Bytes.{AreBytes}
@@ -27,29 +27,6 @@ use Rattle.ild_typed.specs.Layer as L
 use Rattle.ild_typed.specs.Layer.{Layer, as_map, as_hamt}
 use Rattle.ild_schema.specs.Slots.{plainly}
 use Rattle.ild_typed.specs.Layers.{IsNotNull, FieldsFit, EntriesFit, RootFits, MapFits, LayerFits}
-
--- the place of an enum's member, or of a union's
-pub got_below : {X : Type 0} (xs : List X) (n : ℕ) → n < length xs → (x : X) × (slice_get xs n ≡ Some x)
-got_below [] n h = absurd (none n h)
-  where
-    none : (n : ℕ) → n < zero → ⊥
-    none n h = omega (arith, h)
-got_below (x ∷ xs) zero h = (x, refl)
-got_below (x ∷ xs) (suc n) h = got_below xs n (less n (length xs) h)
-  where
-    less : (n m : ℕ) → suc n < suc m → n < m
-    less n m h = omega (arith, h)
-
-pub below_got : {X : Type 0} (xs : List X) (n : ℕ) (x : X) → slice_get xs n ≡ Some x → n < length xs
-below_got [] n x h = absurd (none-some x h)
-below_got (y ∷ ys) zero x h = more (length ys)
-  where
-    more : (m : ℕ) → zero < suc m
-    more m = omega (arith)
-below_got (y ∷ ys) (suc n) x h = more n (length ys) (below_got ys n x h)
-  where
-    more : (n m : ℕ) → n < m → suc n < suc m
-    more n m h = omega (arith, h)
 
 pub member_there : {X : Type 0} (P : X → Type 0) (o : Option X) → IsSomeAnd o P → (x : X) × (o ≡ Some x) × P x
 member_there P None h = absurd h
@@ -126,7 +103,7 @@ module _ (rows : List Row) (Of : Slot → Value → Type 0) where
   unit_form d h = absurd h
 
   pub enum_form : (d : TypeDef) (n : ℕ) → LayerFits Of rows d (L.enum n) → (e : EnumDef) × (m : EnumMember) × (d ≡ D.Enum e) × (slice_get e.members n ≡ Some m)
-  enum_form (D.Enum e) n h = let g = got_below e.members n h in (e, g.0, refl, g.1)
+  enum_form (D.Enum e) n h = let g = there_at e.members n h in (e, g.0, refl, g.1)
   enum_form (D.Map key key_at value at form) n h = absurd (no_map key value form (L.enum n) refl refl h)
   enum_form d n h = absurd h
 

@@ -8,6 +8,7 @@ use Rattle.std.specs.declared.cmp.Ordering.{Ordering}
 use Rattle.std.specs.declared.cmp.Ordering.TheVariants.{Less, Equal, Greater}
 use Rattle.std.proofs.lemmas.Option.{same_Some, none-some}
 use Rattle.sha2.proofs.Facts256.{length-sha256}
+use Rattle.ild_data.proofs.AllOf.{all_append, all_filter}
 use Rattle.ild_data.specs.Data as T
 use Rattle.ild_data.specs.Data.{Data}
 use Rattle.ild_data.specs.ByteOrder.{bytewise, in_byte_order, IsInOrder}
@@ -46,8 +47,7 @@ use Rattle.ild_typed.proofs.Entries.{both_from}
 use Rattle.ild_typed.proofs.Layers.{by_layer}
 use Rattle.ild_typed.proofs.OneValue.{Way, as_null, as_layer, way_of, layer_data}
 use Rattle.ild_typed.proofs.PartData.{values_data, pairs_data, member_data}
-use Rattle.ild_typed.proofs.Treed.{all_append}
-use Rattle.ild_typed.proofs.TreeNodes.{part_in, trie_node}
+use Rattle.ild_typed.proofs.TreeNodes.{trie_node}
 use Rattle.ild_typed.proofs.TreeParts.{no_type_map}
 use Rattle.ild_typed.proofs.TreeShown.{list_level, map_level, struct_level, union_level}
 use Rattle.ild_typed.proofs.TreeValues.{form_fits}
@@ -125,7 +125,7 @@ module _ (K : List ℕ → Type 0) (W : Data → Type 0) where
       let of : NodeSlots h p left 0 sorted x.item = node_slots h p left 0 sorted x.item (subst (λ n. node_of h p n 0 sorted ≡ Some x.item) (levels-first p) (trie_node h p es x.item x.there)) in
       let fine = slots_fine p Both (λ i. slot_of p.bucket (node_of h p left 1) (part (at_depth h p 0) sorted i))
       (λ i z is.
-      let own = part_in Both (λ k. at_depth h p 0 k.0 == i) sorted (sorted_both es all) in
+      let own = all_filter Both (λ k. at_depth h p 0 k.0 == i) sorted (sorted_both es all) in
       slot_fine p Both (node_of h p left 1) (part (at_depth h p 0) sorted i) z (in_order-part (at_depth h p 0) sorted i (in_order-sorted es)) (keys_of (part (at_depth h p 0) sorted i) own) own is)
       (range_with_len 0 (2 ^ p.width)) of.slots of.there in
       let both = fine_slots p Both of.slots fine in

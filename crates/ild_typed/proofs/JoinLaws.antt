@@ -4,13 +4,13 @@ use Rattle.std.specs.Prelude.{nat_eq}
 use Rattle.std.specs.List.{AllByRecursion, list_all}
 use Rattle.std.specs.Cmp.Lexicographic.{same_text as text_same}
 use Rattle.std.proofs.lemmas.List.{length-take, length-drop, take_at, drop_at}
-use Rattle.std.proofs.lemmas.Bool.{eq-eqb}
+use Rattle.std.proofs.lemmas.Bool.{eq-eqb, and_parts}
 use Rattle.std.proofs.lemmas.Option.{same_Some}
 use Rattle.ild_schema.specs.Joins.{Occurs, joined, IsJoint, IsJoin, pair_text, IsPair}
 use Rattle.ild_schema.specs.Prefixes.{begins}
 use Rattle.ild_typed.specs.Texts.{places, joints, same_places, join, is_first, is_parted}
 use Rattle.ild_typed.specs.JoinLaws.{JoinsAreJoins, PairsArePairs}
-use Rattle.ild_typed.proofs.Basics.{true_from, if_from, both_true}
+use Rattle.ild_typed.proofs.Basics.{true_from, if_from}
 use Rattle.ild_typed.proofs.Index.{own_text}
 
 -- ---- rising lists
@@ -76,14 +76,14 @@ behind_first : List ℕ → List ℕ
 behind_first [] = []
 behind_first (x ∷ xs) = xs
 
-begins_take : (d s : List ℕ) → begins d s ≡ true → take (length d) s ≡ d
+pub begins_take : (d s : List ℕ) → begins d s ≡ true → take (length d) s ≡ d
 begins_take [] s e = refl
 begins_take (c ∷ d) [] e = absurd cc
 begins_take (c ∷ d) (b ∷ s) e =
-    let h = both_true (nat_eq c b) (begins d s) e in
+    let h = and_parts (nat_eq c b) (begins d s) e in
     ap (λ (x : ℕ). x ∷ take (length d) s) (sym (eqb-true c b h.0)) ∙ ap (λ (xs : List ℕ). c ∷ xs) (begins_take d s h.1)
 
-take_begins : (d s : List ℕ) → take (length d) s ≡ d → begins d s ≡ true
+pub take_begins : (d s : List ℕ) → take (length d) s ≡ d → begins d s ≡ true
 unfolding first_of behind_first
 take_begins [] s e = refl
 take_begins (c ∷ d) [] e = absurd cc
@@ -232,7 +232,7 @@ module _ (i : List ℕ) (some : 0 < length i) where
 
   all_from : (ps : List (List ℕ × List ℕ)) → list_all (is_parted i) ps ≡ true → AllByRecursion (IsPair i) ps
   all_from [] e = tt
-  all_from (p ∷ ps) e = let h = both_true (is_parted i p) (list_all (is_parted i) ps) e in (pair_from p h.0, all_from ps h.1)
+  all_from (p ∷ ps) e = let h = and_parts (is_parted i p) (list_all (is_parted i) ps) e in (pair_from p h.0, all_from ps h.1)
 
   all_to : (ps : List (List ℕ × List ℕ)) → AllByRecursion (IsPair i) ps → list_all (is_parted i) ps ≡ true
   all_to [] all = refl

@@ -2,11 +2,11 @@
 use Rattle.std.proofs.Common.{◌≡◌, ℕ, ◌+◌, List, [], ◌∷◌, ◌++◌, length, map, Bool, true, false, Some, refl, sym, ◌∙◌, ap, arith}
 use Rattle.std.specs.Cmp.Lexicographic.{same_text as text_same}
 use Rattle.std.specs.Prelude.{nat_eq}
-use Rattle.std.proofs.lemmas.Bool.{eqb-true}
+use Rattle.std.proofs.lemmas.Bool.{eqb-true, and_parts}
 use Rattle.std.specs.List.{list_all}
 use Rattle.ild_typed.specs.Texts.{places, joints, same_places, join, is_first, is_parted}
 use Rattle.ild_schema.specs.Joins.{joined, pair_text}
-use Rattle.ild_typed.proofs.Basics.{true_from, both_true, fronts_same, behind_front}
+use Rattle.ild_typed.proofs.Basics.{true_from, fronts_same, behind_front}
 
 -- no parts, or some
 abbrev pub is_nil : {A : Type 0} → List A → Bool
@@ -55,7 +55,7 @@ join_tells delim ps qs t n e k =
 nat_same : (m n : ℕ) → nat_eq m n ≡ true → m ≡ n
 nat_same m n e = eqb-true m n e
 
-first_same : (m n : ℕ) (ns : List ℕ) → is_first m ns ≡ true → is_first n ns ≡ true → m ≡ n
+pub first_same : (m n : ℕ) (ns : List ℕ) → is_first m ns ≡ true → is_first n ns ≡ true → m ≡ n
 first_same m n [] e k = absurd cc
 first_same m n (p ∷ ps) e k = nat_same m p e ∙ sym (nat_same n p k)
 
@@ -74,8 +74,8 @@ pairs_tell inner [] [] e k same = refl
 pairs_tell inner [] (q ∷ qs) e k same = absurd cc
 pairs_tell inner (p ∷ ps) [] e k same = absurd cc
 pairs_tell inner (p ∷ ps) (q ∷ qs) e k same =
-    let a = both_true (is_parted inner p) (list_all (is_parted inner) ps) e in
-    let b = both_true (is_parted inner q) (list_all (is_parted inner) qs) k in
+    let a = and_parts (is_parted inner p) (list_all (is_parted inner) ps) e in
+    let b = and_parts (is_parted inner q) (list_all (is_parted inner) qs) k in
     let first = pair_tells inner p q a.0 b.0 (ap head_text same) in
     let rest = pairs_tell inner ps qs a.1 b.1 (ap tail_texts same) in
     λ i. first i ∷ rest i

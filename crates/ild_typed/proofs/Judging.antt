@@ -1,7 +1,8 @@
 -- A value that has a representation is whole, has no hole, breaks no delimiter and exhausts no HAMT.
-use Rattle.std.proofs.Common.{◌≡◌, ℕ, List, [], ◌∷◌, Bool, true, false, ◌||◌, ◌&&◌, Option, Some, None, option_map, refl, sym, ◌∙◌, ap, subst}
+use Rattle.std.proofs.Common.{◌≡◌, ℕ, List, [], ◌∷◌, Bool, true, false, ◌&&◌, Option, Some, None, option_map, refl, sym, ◌∙◌, ap, subst}
 use Rattle.std.specs.Prelude.{option_and_then, is_none}
 use Rattle.std.proofs.lemmas.Option.{same_Some, none-some}
+use Rattle.std.proofs.lemmas.Bool.{or_from, and_from, and_parts}
 use Rattle.ild_data.specs.Data as T
 use Rattle.ild_data.specs.Data.{Data}
 use Rattle.ild_schema.specs.declared.number.Slot.{Slot}
@@ -16,7 +17,6 @@ use Rattle.ild_schema.specs.declared.row.Row.{Row}
 use Rattle.ild_schema.specs.Value as V
 use Rattle.ild_schema.specs.Value.{Value, Values, Pairs, Optionals}
 use Rattle.ild_typed.specs.Layer as L
-use Rattle.ild_typed.specs.Layer.{Layer, as_hamt}
 use Rattle.ild_typed.specs.Texts.{join, join_pairs}
 use Rattle.ild_typed.specs.Fields.{field_entries, are_absent, tuple_items, all_items}
 use Rattle.ild_typed.specs.Strings.{texts_in, text_pairs, stringpairs, stringjoin}
@@ -29,17 +29,11 @@ use Rattle.ild_schema.specs.Whole.{is_whole, are_whole, pairs_whole, fields_whol
 use Rattle.ild_typed.specs.Judged.{some_present, hole_in, tuple_hole, is_hole, is_refused, struct_breaks, map_breaks, breaks, map_exhausts, is_exhausted}
 use Rattle.ild_typed.specs.EachLayer.{some_layer, some_value, some_pair, some_field}
 use Rattle.ild_typed.proofs.PartData.{pairs_data, member_data, values_data, values_test, pairs_test, member_test, given_false}
-use Rattle.ild_typed.proofs.Basics.{then_from, map_from, true_from, both_true}
+use Rattle.ild_typed.proofs.Basics.{then_from, map_from, true_from}
 use Rattle.ild_typed.proofs.Entries.{both_from}
 use Rattle.ild_typed.proofs.Flat.{stringpairs_flat, struct_pairs_flat, struct_join_flat, pairs_alone, fields_alone}
 use Rattle.ild_typed.proofs.OneValue.{Way, as_null, as_layer, way_of}
 use Rattle.ild_typed.proofs.MakingValues.{layer_test, Sound, SoundValues, SoundPairs, SoundFields}
-
-false_or : (a b : Bool) → a ≡ false → b ≡ false → (a || b) ≡ false
-false_or a b x y = ap (λ c. c || b) x ∙ y
-
-true_and : (a b : Bool) → a ≡ true → b ≡ true → (a && b) ≡ true
-true_and a b x y = ap (λ c. c && b) x ∙ y
 
 made_not_refused : {A : Type 0} (f : A → Option (List ℕ)) (o : Option A) (a : A) (s : List ℕ) → o ≡ Some a → f a ≡ Some s → is_refused f o ≡ false
 made_not_refused f o a s is made = ap (is_refused f) is ∙ ap is_none made
@@ -98,7 +92,7 @@ module _ (h : List ℕ → List ℕ) (rows : List Row) where
   absent_some (f ∷ fs) (V.absent os) ds e k =
       let b = map_from (λ xs. None ∷ xs) (represented_fields (whole h) rows fs os) ds e in
       let both : (f.optional && are_absent fs b.item) ≡ true = ap (are_absent (f ∷ fs)) (same_Some (None ∷ b.item) ds b.made) ∙ k in
-      absent_some fs os b.item b.there (both_true f.optional (are_absent fs b.item) both).1
+      absent_some fs os b.item b.there (and_parts f.optional (are_absent fs b.item) both).1
   absent_some (f ∷ fs) (V.present v os) ds e k =
       let b = both_from (option_map Some (represented (whole h) rows f.slot v)) (represented_fields (whole h) rows fs os) ds e in
       let x = map_from Some (represented (whole h) rows f.slot v) b.item b.first in
@@ -113,7 +107,7 @@ module _ (h : List ℕ → List ℕ) (rows : List Row) where
       let b = map_from (λ xs. None ∷ xs) (represented_fields (whole h) rows fs os) ds e in
       let here : tuple_items (f ∷ fs) (None ∷ b.item) ≡ Some items = ap (tuple_items (f ∷ fs)) (same_Some (None ∷ b.item) ds b.made) ∙ k in
       let all : (f.optional && are_absent fs b.item) ≡ true = (true_from (are_absent (f ∷ fs) (None ∷ b.item)) [] items here).0 in
-      absent_some fs os b.item b.there (both_true f.optional (are_absent fs b.item) all).1
+      absent_some fs os b.item b.there (and_parts f.optional (are_absent fs b.item) all).1
   tuple_sound (f ∷ fs) (V.present v os) ds items e k =
       let b = both_from (option_map Some (represented (whole h) rows f.slot v)) (represented_fields (whole h) rows fs os) ds e in
       let x = map_from Some (represented (whole h) rows f.slot v) b.item b.first in
@@ -180,7 +174,7 @@ module _ (h : List ℕ → List ℕ) (rows : List Row) where
         let parts = later z.item x.item z.made in
         let here = list_layer d vs in
         let up : (test : Option TypeDef → Value → Bool) → test (Some d) (V.list vs) ≡ false → some_value test rows z.item vs ≡ false → some_layer test rows s (V.list vs) ≡ false
-        = λ test a b. subst (λ c. layer_test test rows c (V.list vs) ≡ false) (sym is) (false_or (test (Some d) (V.list vs)) (values_test test rows (element_of (Some d)) vs) a (given_false (λ u. some_value test rows u vs) (element_of (Some d)) z.item z.there b)) in
+        = λ test a b. subst (λ c. layer_test test rows c (V.list vs) ≡ false) (sym is) (or_from (test (Some d) (V.list vs)) (values_test test rows (element_of (Some d)) vs) a (given_false (λ u. some_value test rows u vs) (element_of (Some d)) z.item z.there b)) in
         record { hole = up is_hole here.hole parts.hole; delimiter = up (breaks rows) here.delimiter parts.delimiter; full = up (is_exhausted h rows) here.full parts.full; entire = parts.entire }
 
   map_case : (s : Slot) (ps : Pairs) (t : Data) → represented (whole h) rows s (V.map ps) ≡ Some t
@@ -194,7 +188,7 @@ module _ (h : List ℕ → List ℕ) (rows : List Row) where
         let parts = later z.item x.item z.made in
         let here = map_layer d ps x.item t x.there (ap (composed (whole h) d) (same_Some (L.map x.item) l x.made) ∙ made) in
         let up : (test : Option TypeDef → Value → Bool) → test (Some d) (V.map ps) ≡ false → some_pair test rows z.item ps ≡ false → some_layer test rows s (V.map ps) ≡ false
-        = λ test a b. subst (λ c. layer_test test rows c (V.map ps) ≡ false) (sym is) (false_or (test (Some d) (V.map ps)) (pairs_test test rows (element_of (Some d)) ps) a (given_false (λ u. some_pair test rows u ps) (element_of (Some d)) z.item z.there b)) in
+        = λ test a b. subst (λ c. layer_test test rows c (V.map ps) ≡ false) (sym is) (or_from (test (Some d) (V.map ps)) (pairs_test test rows (element_of (Some d)) ps) a (given_false (λ u. some_pair test rows u ps) (element_of (Some d)) z.item z.there b)) in
         record { hole = up is_hole here.hole parts.hole; delimiter = up (breaks rows) here.delimiter parts.delimiter; full = up (is_exhausted h rows) here.full parts.full; entire = parts.entire }
 
   struct_case : (s : Slot) (os : Optionals) (t : Data) → represented (whole h) rows s (V.struct os) ≡ Some t
@@ -207,7 +201,7 @@ module _ (h : List ℕ → List ℕ) (rows : List Row) where
         let parts = later (fields_of (Some d)) x.item x.there in
         let here = struct_layer d os x.item t x.there (ap (composed (whole h) d) (same_Some (L.struct x.item) l x.made) ∙ made) in
         let up : (test : Option TypeDef → Value → Bool) → test (Some d) (V.struct os) ≡ false → some_field test rows (fields_of (Some d)) os ≡ false → some_layer test rows s (V.struct os) ≡ false
-        = λ test a b. subst (λ c. layer_test test rows c (V.struct os) ≡ false) (sym is) (false_or (test (Some d) (V.struct os)) (some_field test rows (fields_of (Some d)) os) a b) in
+        = λ test a b. subst (λ c. layer_test test rows c (V.struct os) ≡ false) (sym is) (or_from (test (Some d) (V.struct os)) (some_field test rows (fields_of (Some d)) os) a b) in
         record { hole = up is_hole here.hole parts.hole; delimiter = up (breaks rows) here.delimiter parts.delimiter; full = up (is_exhausted h rows) here.full parts.full; entire = parts.entire }
 
   union_case : (s : Slot) (n : ℕ) (v : Value) (t : Data) → represented (whole h) rows s (V.union n v) ≡ Some t
@@ -221,7 +215,7 @@ module _ (h : List ℕ → List ℕ) (rows : List Row) where
         let parts = later z.item x.item z.made in
         let here = union_layer d n v in
         let up : (test : Option TypeDef → Value → Bool) → test (Some d) (V.union n v) ≡ false → some_layer test rows z.item v ≡ false → some_layer test rows s (V.union n v) ≡ false
-        = λ test a b. subst (λ c. layer_test test rows c (V.union n v) ≡ false) (sym is) (false_or (test (Some d) (V.union n v)) (member_test test rows (member_of (Some d) n) v) a (given_false (λ u. some_layer test rows u v) (member_of (Some d) n) z.item z.there b)) in
+        = λ test a b. subst (λ c. layer_test test rows c (V.union n v) ≡ false) (sym is) (or_from (test (Some d) (V.union n v)) (member_test test rows (member_of (Some d) n) v) a (given_false (λ u. some_layer test rows u v) (member_of (Some d) n) z.item z.there b)) in
         record { hole = up is_hole here.hole parts.hole; delimiter = up (breaks rows) here.delimiter parts.delimiter; full = up (is_exhausted h rows) here.full parts.full; entire = parts.entire }
 
   hamt_case : (s : Slot) (x t : Data) → represented (whole h) rows s (V.hamt x) ≡ Some t → ⊥
@@ -246,10 +240,10 @@ module _ (h : List ℕ → List ℕ) (rows : List Row) where
         let x = sound_of s v b.item b.first in
         let y = sound_values s vs b.items b.rest in
         record {
-          hole = false_or (some_layer is_hole rows s v) (some_value is_hole rows s vs) x.hole y.hole;
-          delimiter = false_or (some_layer (breaks rows) rows s v) (some_value (breaks rows) rows s vs) x.delimiter y.delimiter;
-          full = false_or (some_layer (is_exhausted h rows) rows s v) (some_value (is_exhausted h rows) rows s vs) x.full y.full;
-          entire = true_and (is_whole v) (are_whole vs) x.entire y.entire;
+          hole = or_from (some_layer is_hole rows s v) (some_value is_hole rows s vs) x.hole y.hole;
+          delimiter = or_from (some_layer (breaks rows) rows s v) (some_value (breaks rows) rows s vs) x.delimiter y.delimiter;
+          full = or_from (some_layer (is_exhausted h rows) rows s v) (some_value (is_exhausted h rows) rows s vs) x.full y.full;
+          entire = and_from (is_whole v) (are_whole vs) x.entire y.entire;
         }
 
     sound_pairs : (s : Slot) (ps : Pairs) (ds : List (List ℕ × Data)) → represented_pairs (whole h) rows s ps ≡ Some ds → SoundPairs h rows s ps
@@ -260,10 +254,10 @@ module _ (h : List ℕ → List ℕ) (rows : List Row) where
         let x = sound_of s v z.item z.there in
         let y = sound_pairs s ps b.items b.rest in
         record {
-          hole = false_or (some_layer is_hole rows s v) (some_pair is_hole rows s ps) x.hole y.hole;
-          delimiter = false_or (some_layer (breaks rows) rows s v) (some_pair (breaks rows) rows s ps) x.delimiter y.delimiter;
-          full = false_or (some_layer (is_exhausted h rows) rows s v) (some_pair (is_exhausted h rows) rows s ps) x.full y.full;
-          entire = true_and (is_whole v) (pairs_whole ps) x.entire y.entire;
+          hole = or_from (some_layer is_hole rows s v) (some_pair is_hole rows s ps) x.hole y.hole;
+          delimiter = or_from (some_layer (breaks rows) rows s v) (some_pair (breaks rows) rows s ps) x.delimiter y.delimiter;
+          full = or_from (some_layer (is_exhausted h rows) rows s v) (some_pair (is_exhausted h rows) rows s ps) x.full y.full;
+          entire = and_from (is_whole v) (pairs_whole ps) x.entire y.entire;
         }
 
     sound_fields : (fs : List Field) (os : Optionals) (ds : List (Option Data)) → represented_fields (whole h) rows fs os ≡ Some ds → SoundFields h rows fs os
@@ -280,10 +274,10 @@ module _ (h : List ℕ → List ℕ) (rows : List Row) where
         let x = sound_of f.slot v z.item z.there in
         let y = sound_fields fs os b.items b.rest in
         record {
-          hole = false_or (some_layer is_hole rows f.slot v) (some_field is_hole rows fs os) x.hole y.hole;
-          delimiter = false_or (some_layer (breaks rows) rows f.slot v) (some_field (breaks rows) rows fs os) x.delimiter y.delimiter;
-          full = false_or (some_layer (is_exhausted h rows) rows f.slot v) (some_field (is_exhausted h rows) rows fs os) x.full y.full;
-          entire = true_and (is_whole v) (fields_whole os) x.entire y.entire;
+          hole = or_from (some_layer is_hole rows f.slot v) (some_field is_hole rows fs os) x.hole y.hole;
+          delimiter = or_from (some_layer (breaks rows) rows f.slot v) (some_field (breaks rows) rows fs os) x.delimiter y.delimiter;
+          full = or_from (some_layer (is_exhausted h rows) rows f.slot v) (some_field (is_exhausted h rows) rows fs os) x.full y.full;
+          entire = and_from (is_whole v) (fields_whole os) x.entire y.entire;
         }
 
 -- nothing of what Judged names stands in a value that has a representation

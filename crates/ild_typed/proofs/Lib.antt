@@ -58,9 +58,9 @@ pub mod Judging
 pub mod TextLaws
 mod SmallMade
 pub mod TreeShown
-pub mod Lists
 pub mod OneLayer
 pub mod FormOf
+pub mod Implied
 pub mod Index
 pub mod Reaching
 pub mod JoinLaws

@@ -3,6 +3,7 @@ use Rattle.std.proofs.Common.{◌≡◌, ℕ, List, [], ◌∷◌, ◌++◌, Boo
 use Rattle.std.specs.Prelude.{IfSome, option_and_then, is_none, unwrap_or}
 use Rattle.std.specs.List.{AllByRecursion}
 use Rattle.std.proofs.lemmas.Option.{same_Some, none-some}
+use Rattle.ild_data.proofs.AllOf.{all_append}
 use Rattle.ild_data.specs.Data as T
 use Rattle.ild_data.specs.Data.{Data}
 use Rattle.ild_data.specs.Key.{put, value_at}
@@ -48,7 +49,6 @@ use Rattle.ild_typed.proofs.OfKinds.{composed_kind}
 use Rattle.ild_typed.proofs.OneValue.{Way, as_null, as_layer, way_of}
 use Rattle.ild_typed.proofs.Structs.{not_there}
 use Rattle.ild_typed.proofs.Wholes.{whole_exact}
-use Rattle.ild_typed.proofs.Treed.{all_append}
 
 -- what is there
 pub record There {A : Type 0} (o : Option A) : Type 0 where
@@ -110,7 +110,7 @@ bytes_of_kind (T.list ds) e = absurd cc
 bytes_of_kind (T.map ms) e = absurd cc
 bytes_of_kind (T.link s) e = absurd cc
 
-itself : (k : KindWord) → same_kind k k ≡ true
+pub itself : (k : KindWord) → same_kind k k ≡ true
 itself K.Null = refl
 itself K.Bool = refl
 itself K.Int = refl

@@ -3,6 +3,8 @@ use Rattle.std.proofs.Common.{◌≡◌, ℕ, zero, suc, ◌-◌, ◌<◌, List,
 use Rattle.std.specs.Prelude.{ℤ, IfSome, IsSomeAnd, slice_get, option_and_then}
 use Rattle.std.specs.List.{AllByRecursion}
 use Rattle.std.proofs.lemmas.Option.{same_Some, none-some}
+use Rattle.std.proofs.lemmas.Bool.{or_parts, and_parts}
+use Rattle.ild_data.proofs.AllOf.{all_at}
 use Rattle.ild_data.specs.Data as T
 use Rattle.ild_data.specs.Data.{Data}
 use Rattle.ild_schema.specs.declared.number.Slot.{Slot}
@@ -37,19 +39,14 @@ use Rattle.ild_typed.specs.Judged.{some_present, hole_in, tuple_hole, is_hole, h
 use Rattle.ild_typed.specs.EachLayer.{some_layer, some_value, some_pair, some_field}
 use Rattle.ild_schema.specs.Made.{IsTextSlot, MadeStruct, MadeMap, MadeMember, MadeEnum, MadeType, IsMade}
 use Rattle.ild_typed.proofs.Flat.{FlatPairs, FlatFields, flat_text, pairs_alone, fields_alone}
-use Rattle.ild_typed.proofs.Basics.{map_from, both_true}
+use Rattle.ild_typed.proofs.Basics.{map_from}
 use Rattle.ild_typed.proofs.PartData.{values_data, pairs_data, member_data, values_test, pairs_test, member_test, false_given}
 use Rattle.ild_typed.proofs.Entries.{both_from}
 use Rattle.ild_typed.proofs.OneValue.{layer_data}
 use Rattle.ild_typed.proofs.Layers.{by_layer}
-use Rattle.ild_typed.proofs.Treed.{all_at}
 use Rattle.ild_typed.proofs.TreeParts.{list_fits, struct_fits, union_fits, map_fits, no_type_map}
 use Rattle.ild_typed.proofs.TreeBlocks.{formed}
 use Rattle.ild_typed.proofs.Making.{There, there_map, there_then, there_both, TextData, text_slot, Suits, none_there, no_gap, FormReady, struct_there, PairsReady, map_there, member_there, enum_there}
-
-or_false : (a b : Bool) → (a || b) ≡ false → (a ≡ false) × (b ≡ false)
-or_false true b e = absurd cc
-or_false false b e = (refl, e)
 
 -- ---- what is asked of the layers of a value
 
@@ -124,10 +121,10 @@ module _ (h : List ℕ → List ℕ) (rows : List Row) where
     values_there : (s : Slot) (vs : Values) → AllByRecursion (fits s) (values_list vs) → SoundValues s vs → There (represented_values (whole h) rows s vs)
     values_there s V.no_values f x = record { item = []; is = refl }
     values_there s (V.value v vs) f x =
-        let a = or_false (some_layer is_hole rows s v) (some_value is_hole rows s vs) x.hole in
-        let b = or_false (some_layer (breaks rows) rows s v) (some_value (breaks rows) rows s vs) x.delimiter in
-        let c = or_false (some_layer (is_exhausted h rows) rows s v) (some_value (is_exhausted h rows) rows s vs) x.full in
-        let w = both_true (is_whole v) (are_whole vs) x.entire in
+        let a = or_parts (some_layer is_hole rows s v) (some_value is_hole rows s vs) x.hole in
+        let b = or_parts (some_layer (breaks rows) rows s v) (some_value (breaks rows) rows s vs) x.delimiter in
+        let c = or_parts (some_layer (is_exhausted h rows) rows s v) (some_value (is_exhausted h rows) rows s vs) x.full in
+        let w = and_parts (is_whole v) (are_whole vs) x.entire in
         there_both (represented (whole h) rows s v) (represented_values (whole h) rows s vs)
         (later s v f.0 (record { hole = a.0; delimiter = b.0; full = c.0; entire = w.0 }))
         (values_there s vs f.1 (record { hole = a.1; delimiter = b.1; full = c.1; entire = w.1 }))
@@ -135,10 +132,10 @@ module _ (h : List ℕ → List ℕ) (rows : List Row) where
     pairs_there : (s : Slot) (ps : Pairs) → AllByRecursion (λ p. IsUtf8 p.0 × fits s p.1) (pairs_list ps) → SoundPairs s ps → There (represented_pairs (whole h) rows s ps)
     pairs_there s V.no_pairs f x = record { item = []; is = refl }
     pairs_there s (V.pair k v ps) f x =
-        let a = or_false (some_layer is_hole rows s v) (some_pair is_hole rows s ps) x.hole in
-        let b = or_false (some_layer (breaks rows) rows s v) (some_pair (breaks rows) rows s ps) x.delimiter in
-        let c = or_false (some_layer (is_exhausted h rows) rows s v) (some_pair (is_exhausted h rows) rows s ps) x.full in
-        let w = both_true (is_whole v) (pairs_whole ps) x.entire in
+        let a = or_parts (some_layer is_hole rows s v) (some_pair is_hole rows s ps) x.hole in
+        let b = or_parts (some_layer (breaks rows) rows s v) (some_pair (breaks rows) rows s ps) x.delimiter in
+        let c = or_parts (some_layer (is_exhausted h rows) rows s v) (some_pair (is_exhausted h rows) rows s ps) x.full in
+        let w = and_parts (is_whole v) (pairs_whole ps) x.entire in
         there_both (option_map {U = List ℕ × Data} (λ d. (k, d)) (represented (whole h) rows s v)) (represented_pairs (whole h) rows s ps)
         (there_map {B = List ℕ × Data} (λ d. (k, d)) (represented (whole h) rows s v) (later s v f.0.1 (record { hole = a.0; delimiter = b.0; full = c.0; entire = w.0 })))
         (pairs_there s ps f.1 (record { hole = a.1; delimiter = b.1; full = c.1; entire = w.1 }))
@@ -150,10 +147,10 @@ module _ (h : List ℕ → List ℕ) (rows : List Row) where
     fields_there (g ∷ fs) (V.absent os) f x =
         there_map (λ ds. None ∷ ds) (represented_fields (whole h) rows fs os) (fields_there fs os f.1 (record { hole = x.hole; delimiter = x.delimiter; full = x.full; entire = x.entire }))
     fields_there (g ∷ fs) (V.present v os) f x =
-        let a = or_false (some_layer is_hole rows g.slot v) (some_field is_hole rows fs os) x.hole in
-        let b = or_false (some_layer (breaks rows) rows g.slot v) (some_field (breaks rows) rows fs os) x.delimiter in
-        let c = or_false (some_layer (is_exhausted h rows) rows g.slot v) (some_field (is_exhausted h rows) rows fs os) x.full in
-        let w = both_true (is_whole v) (fields_whole os) x.entire in
+        let a = or_parts (some_layer is_hole rows g.slot v) (some_field is_hole rows fs os) x.hole in
+        let b = or_parts (some_layer (breaks rows) rows g.slot v) (some_field (breaks rows) rows fs os) x.delimiter in
+        let c = or_parts (some_layer (is_exhausted h rows) rows g.slot v) (some_field (is_exhausted h rows) rows fs os) x.full in
+        let w = and_parts (is_whole v) (fields_whole os) x.entire in
         there_both (option_map Some (represented (whole h) rows g.slot v)) (represented_fields (whole h) rows fs os)
         (there_map Some (represented (whole h) rows g.slot v) (later g.slot v f.0 (record { hole = a.0; delimiter = b.0; full = c.0; entire = w.0 })))
         (fields_there fs os f.1 (record { hole = a.1; delimiter = b.1; full = c.1; entire = w.1 }))
@@ -358,9 +355,9 @@ module _ (h : List ℕ → List ℕ) (rows : List Row) where
         let o = levels_of d (V.list vs) - 1 in
         let u = element_of (Some d) in
         let z = list_fits (below o) rows d (values_list vs) f.1 in
-        let a = or_false (is_hole (Some d) (V.list vs)) (values_test is_hole rows u vs) x.hole in
-        let b = or_false (breaks rows (Some d) (V.list vs)) (values_test (breaks rows) rows u vs) x.delimiter in
-        let c = or_false (is_exhausted h rows (Some d) (V.list vs)) (values_test (is_exhausted h rows) rows u vs) x.full in
+        let a = or_parts (is_hole (Some d) (V.list vs)) (values_test is_hole rows u vs) x.hole in
+        let b = or_parts (breaks rows (Some d) (V.list vs)) (values_test (breaks rows) rows u vs) x.delimiter in
+        let c = or_parts (is_exhausted h rows (Some d) (V.list vs)) (values_test (is_exhausted h rows) rows u vs) x.full in
         let own : SoundValues z.slot vs = record {
           hole = false_given (λ k. some_value is_hole rows k vs) u z.slot z.is a.1;
           delimiter = false_given (λ k. some_value (breaks rows) rows k vs) u z.slot z.is b.1;
@@ -373,9 +370,9 @@ module _ (h : List ℕ → List ℕ) (rows : List Row) where
         let o = levels_of d (V.map ps) - 1 in
         let u = element_of (Some d) in
         let z = map_fits (below o) rows d (pairs_list ps) f.1 in
-        let a = or_false (is_hole (Some d) (V.map ps)) (pairs_test is_hole rows u ps) x.hole in
-        let b = or_false (breaks rows (Some d) (V.map ps)) (pairs_test (breaks rows) rows u ps) x.delimiter in
-        let c = or_false (is_exhausted h rows (Some d) (V.map ps)) (pairs_test (is_exhausted h rows) rows u ps) x.full in
+        let a = or_parts (is_hole (Some d) (V.map ps)) (pairs_test is_hole rows u ps) x.hole in
+        let b = or_parts (breaks rows (Some d) (V.map ps)) (pairs_test (breaks rows) rows u ps) x.delimiter in
+        let c = or_parts (is_exhausted h rows (Some d) (V.map ps)) (pairs_test (is_exhausted h rows) rows u ps) x.full in
         let own : SoundPairs z.slot ps = record {
           hole = false_given (λ k. some_pair is_hole rows k ps) u z.slot z.is a.1;
           delimiter = false_given (λ k. some_pair (breaks rows) rows k ps) u z.slot z.is b.1;
@@ -388,9 +385,9 @@ module _ (h : List ℕ → List ℕ) (rows : List Row) where
     layer_there s d (V.struct os) is f x =
         let o = levels_of d (V.struct os) - 1 in
         let fs = fields_of (Some d) in
-        let a = or_false (is_hole (Some d) (V.struct os)) (some_field is_hole rows fs os) x.hole in
-        let b = or_false (breaks rows (Some d) (V.struct os)) (some_field (breaks rows) rows fs os) x.delimiter in
-        let c = or_false (is_exhausted h rows (Some d) (V.struct os)) (some_field (is_exhausted h rows) rows fs os) x.full in
+        let a = or_parts (is_hole (Some d) (V.struct os)) (some_field is_hole rows fs os) x.hole in
+        let b = or_parts (breaks rows (Some d) (V.struct os)) (some_field (breaks rows) rows fs os) x.delimiter in
+        let c = or_parts (is_exhausted h rows (Some d) (V.struct os)) (some_field (is_exhausted h rows) rows fs os) x.full in
         let fit = struct_fits (below o) rows d (optionals_list os) f.1 in
         let y = fields_there (below o) (later o) fs os fit (record { hole = a.1; delimiter = b.1; full = c.1; entire = x.entire }) in
         by_data s d (V.struct os) (L.struct y.item) is (ap (option_map L.struct) y.is)
@@ -401,9 +398,9 @@ module _ (h : List ℕ → List ℕ) (rows : List Row) where
         let z = union_fits (below o) rows d n v f.1 in
         let k = slot_of z.member in
         let has : u ≡ Some k = ap (option_map slot_of) z.is in
-        let a = or_false (is_hole (Some d) (V.union n v)) (member_test is_hole rows u v) x.hole in
-        let b = or_false (breaks rows (Some d) (V.union n v)) (member_test (breaks rows) rows u v) x.delimiter in
-        let c = or_false (is_exhausted h rows (Some d) (V.union n v)) (member_test (is_exhausted h rows) rows u v) x.full in
+        let a = or_parts (is_hole (Some d) (V.union n v)) (member_test is_hole rows u v) x.hole in
+        let b = or_parts (breaks rows (Some d) (V.union n v)) (member_test (breaks rows) rows u v) x.delimiter in
+        let c = or_parts (is_exhausted h rows (Some d) (V.union n v)) (member_test (is_exhausted h rows) rows u v) x.full in
         let own : Sound k v = record {
           hole = false_given (λ j. some_layer is_hole rows j v) u k has a.1;
           delimiter = false_given (λ j. some_layer (breaks rows) rows j v) u k has b.1;

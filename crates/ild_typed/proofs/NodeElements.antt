@@ -1,9 +1,10 @@
 -- What is read as the elements of a node is the elements of its slots, and the other way.
 use Rattle.std.specs.List.{AllByRecursion}
-use Rattle.std.proofs.Common.{◌≡◌, ℕ, zero, suc, ◌==◌, Bool, true, false, cond, List, [], ◌∷◌, ◌++◌, length, map, drop, Some, None, refl, sym, ap, arith, flat_map}
+use Rattle.std.proofs.Common.{◌≡◌, ℕ, ◌==◌, Bool, true, false, cond, List, [], ◌∷◌, ◌++◌, length, map, drop, Some, None, refl, sym, ap, arith, flat_map}
 use Rattle.std.specs.Ordering.{eq_by_cmp}
 use Rattle.std.proofs.lemmas.Bool.{and_parts, and_from, eqb-true, eq-eqb}
 use Rattle.std.proofs.lemmas.List.{length-drop}
+use Rattle.ild_data.proofs.Bytes.{AreBytes-drop}
 use Rattle.ild_data.specs.Data.{Data, list, link, Items, no_items, item, items_of, items_list}
 use Rattle.ild_data.specs.Spell.{cid_of}
 use Rattle.ild_data.specs.declared.hamt_shape.HamtShape.{HamtShape}
@@ -37,15 +38,10 @@ pub record SlotOf (p : HamtShape) (t : Data) : Type 0 where
   pub form : IsSlot p slot
   pub used : is_used slot ≡ true
 
-bytes-drop : (n : ℕ) (b : List ℕ) → AreBytes b → AreBytes (drop n b)
-bytes-drop zero b all = all
-bytes-drop (suc n) [] all = tt
-bytes-drop (suc n) (x ∷ b) all = bytes-drop n b all.1
-
 pub element-taken : (p : HamtShape) (t : Data) → IsTree t → element_fits p.bucket t ≡ true → SlotOf p t
 element-taken p (link s) tree is =
     let parts = block-link s is in
-    record { slot = child (drop 4 s); is = ap (λ c. link c ∷ []) (sym parts.0); form = (parts.1, bytes-drop 4 s tree.1); used = refl }
+    record { slot = child (drop 4 s); is = ap (λ c. link c ∷ []) (sym parts.0); form = (parts.1, AreBytes-drop 4 s tree.1); used = refl }
 element-taken p (list ds) tree is =
     let b = bucket-taken p (list ds) is in
     record { slot = bucket b.es; is = ap (λ t. t ∷ []) (sym b.is); form = b.form; used = refl }

@@ -36,7 +36,7 @@ formed rows s P Q more None e h = absurd h
 formed rows s P Q more (Some d) e h = record { ty = d; form = e; holds = more d h }
 
 -- what is passed over is room taken away
-past_typed : (rows : List Row) (over room : ℕ) (s : Slot) (w : Value) → FitsPast rows room over s w → OfType rows s w
+pub past_typed : (rows : List Row) (over room : ℕ) (s : Slot) (w : Value) → FitsPast rows room over s w → OfType rows s w
 unfolding FitsPast
 past_typed rows zero room s w h = (room, h)
 past_typed rows (suc over) zero s w h = absurd h

@@ -5,6 +5,9 @@ use Rattle.std.specs.Option.{option_map_or}
 use Rattle.std.specs.List.{AllByRecursion, flat_map}
 use Rattle.std.specs.Cmp.Lexicographic.{same_text as text_same, other_text}
 use Rattle.std.proofs.lemmas.Option.{same_Some, none-some}
+use Rattle.std.proofs.lemmas.Bool.{and_parts}
+use Rattle.ild_data.proofs.Options.{none_is}
+use Rattle.ild_data.proofs.AllOf.{all_split}
 use Rattle.ild_data.specs.Data as T
 use Rattle.ild_data.specs.Data.{Data}
 use Rattle.ild_data.specs.Key.{same_text, put, value_at, Rises}
@@ -32,7 +35,7 @@ use Rattle.ild_schema.specs.DataKinds.{same_kind}
 use Rattle.ild_schema.specs.Hex.{bytes_of_hex}
 use Rattle.ild_schema.specs.Clear.{AreNamesApart, ClearStruct, KeysApart, ClearType}
 use Rattle.ild_typed.specs.Layer as L
-use Rattle.ild_typed.specs.Layer.{Layer, as_list, as_map, as_struct, as_union}
+use Rattle.ild_typed.specs.Layer.{Layer, as_list, as_struct, as_union}
 use Rattle.ild_typed.specs.Kinds.{kind_word_of}
 use Rattle.ild_typed.specs.Slots.{slot_of}
 use Rattle.ild_typed.specs.Texts.{join, join_pairs}
@@ -45,14 +48,13 @@ use Rattle.ild_typed.specs.RootSpots.{in_node, bucket_spots, root_spots}
 use Rattle.ild_typed.specs.Refused.{AreParts}
 use Rattle.ild_typed.specs.Ways.{moved, key_in, value_in, step_in, found_at}
 use Rattle.ild_typed.specs.WayLaws.{Leads, IsReached}
-use Rattle.ild_typed.proofs.Basics.{then_from, map_from, true_from, both_true}
+use Rattle.ild_typed.proofs.Basics.{then_from, map_from, true_from}
 use Rattle.ild_typed.proofs.Entries.{both_from, only_text_data, only_bytes_data, value_sorted, value_put, value_first}
 use Rattle.ild_typed.proofs.Onlies.{only_list, only_struct, only_union}
 use Rattle.ild_typed.proofs.PartsTrees.{content_found}
 use Rattle.ild_typed.proofs.Rising.{first_there, below_none}
 use Rattle.ild_typed.proofs.Structs.{scalar_same, written, field_from, look, past, not_there}
-use Rattle.ild_typed.proofs.TreeNodes.{all_split}
-use Rattle.ild_typed.proofs.Unions.{only_map_data, is_none_says}
+use Rattle.ild_typed.proofs.Unions.{only_map_data}
 use Rattle.ild_typed.proofs.WaySteps.{IsBare, bare_text, bare_bytes, bare_scalar, no_way, itself, bare_reached, to_item, to_value, to_key, All, StandFrom, first_of, rest_of, from_start, here_reached}
 
 -- ---- lists, and maps
@@ -90,14 +92,14 @@ pairs_reached k s whole i (e ∷ es) each =
       (λ way l. to_item whole i (pair_data e) (item 1 ∷ way) here (to_item (T.text e.0 ∷ e.1 ∷ []) 1 e.1 way refl l), rest),
     )
 
-texts_bare : (es : List (List ℕ × Data)) (ts : List (List ℕ × List ℕ)) → text_pairs es ≡ Some ts → AllByRecursion (λ e. IsBare e.1) es
+pub texts_bare : (es : List (List ℕ × Data)) (ts : List (List ℕ × List ℕ)) → text_pairs es ≡ Some ts → AllByRecursion (λ e. IsBare e.1) es
 texts_bare [] ts h = tt
 texts_bare (e ∷ es) ts h =
     let b = both_from (option_map {U = List ℕ × List ℕ} (λ s. (e.0, s)) (text_in e.1)) (text_pairs es) ts h in
     let x = map_from {B = List ℕ × List ℕ} (λ s. (e.0, s)) (text_in e.1) b.item b.first in
     (subst IsBare (sym (only_text_data e.1 x.item x.there)) (bare_text x.item), texts_bare es b.items b.rest)
 
-stringpairs_bare : (inner entry : List ℕ) (es : List (List ℕ × Data)) (t : Data) → stringpairs inner entry es ≡ Some t → AllByRecursion (λ e. IsBare e.1) es
+pub stringpairs_bare : (inner entry : List ℕ) (es : List (List ℕ × Data)) (t : Data) → stringpairs inner entry es ≡ Some t → AllByRecursion (λ e. IsBare e.1) es
 stringpairs_bare inner entry es t h =
     let x = map_from T.text (option_and_then (join_pairs inner entry) (text_pairs es)) t h in
     let y = then_from (join_pairs inner entry) (text_pairs es) x.item x.there in
@@ -119,7 +121,7 @@ map_reached (MF.Hamt p) k s es t made tree = absurd (none-some t made)
 
 -- ---- fields
 
-implicit_bare : (o : Option Scalar) (d : Data) → is_implicit o d ≡ true → IsBare d
+pub implicit_bare : (o : Option Scalar) (d : Data) → is_implicit o d ≡ true → IsBare d
 implicit_bare None d e = absurd cc
 implicit_bare (Some s) d e = subst IsBare (sym (scalar_same s d e)) (bare_scalar s)
 
@@ -178,7 +180,7 @@ absent_reached : (t : Data) (form : StructForm) (n : ℕ) (fs : List Field) (os 
 absent_reached t form n [] os e = tt
 absent_reached t form n (f ∷ fs) [] e = tt
 absent_reached t form n (f ∷ fs) (Some d ∷ os) e = absurd cc
-absent_reached t form n (f ∷ fs) (None ∷ os) e = absent_reached t form n fs os (both_true f.optional (are_absent fs os) e).1
+absent_reached t form n (f ∷ fs) (None ∷ os) e = absent_reached t form n fs os (and_parts f.optional (are_absent fs os) e).1
 
 -- no field of a tuple has a value that stands for it
 abbrev AreWritten : List Field → Type 0
@@ -189,7 +191,7 @@ tuple_reached : (whole : List Data) (n : ℕ) (fs : List Field) (os : List (Opti
 tuple_reached whole n [] os ds all e each = tt
 tuple_reached whole n (f ∷ fs) [] ds all e each = tt
 tuple_reached whole n (f ∷ fs) (None ∷ os) ds all e each =
-    absent_reached (T.list (T.items_of whole)) S.Tuple n fs os (both_true f.optional (are_absent fs os) (true_from (are_absent (f ∷ fs) (None ∷ os)) [] ds e).0).1
+    absent_reached (T.list (T.items_of whole)) S.Tuple n fs os (and_parts f.optional (are_absent fs os) (true_from (are_absent (f ∷ fs) (None ∷ os)) [] ds e).0).1
 tuple_reached whole n (f ∷ fs) (Some d ∷ os) ds all e each =
     let x = map_from (λ r. d ∷ r) (tuple_items fs os) ds e in
     let own : StandFrom whole n (d ∷ x.item) = subst (StandFrom whole n) (sym (same_Some (d ∷ x.item) ds x.made)) each in
@@ -209,7 +211,7 @@ bare_fields_reached t form none n (f ∷ fs) (Some d ∷ os) bare = pick (is_imp
   pick true later = (here_reached t (value_spot f.slot d []) refl bare.0, later n)
   pick false later = (here_reached t (value_spot f.slot d (field_steps form f n)) (none f n) bare.0, later (n + 1))
 
-entries_bare : (fs : List Field) (os : List (Option Data)) (es : List (List ℕ × Data)) → field_entries fs os ≡ Some es → AllByRecursion (λ e. IsBare e.1) es → AllByRecursion (λ o. IfSome o IsBare) os
+pub entries_bare : (fs : List Field) (os : List (Option Data)) (es : List (List ℕ × Data)) → field_entries fs os ≡ Some es → AllByRecursion (λ e. IsBare e.1) es → AllByRecursion (λ o. IfSome o IsBare) os
 entries_bare fs [] es e all = tt
 entries_bare [] (o ∷ os) es e all = absurd (none-some es e)
 entries_bare (f ∷ fs) (o ∷ os) es e all =
@@ -224,7 +226,7 @@ entries_bare (f ∷ fs) (o ∷ os) es e all =
       pick true is mine = implicit_bare f.implicit d is
       pick false is mine = mine.0
 
-joined_bare : (fs : List Field) (os : List (Option Data)) (ds : List Data) (ts : List (List ℕ)) → all_items fs os ≡ Some ds → texts_in ds ≡ Some ts → AllByRecursion (λ o. IfSome o IsBare) os
+pub joined_bare : (fs : List Field) (os : List (Option Data)) (ds : List Data) (ts : List (List ℕ)) → all_items fs os ≡ Some ds → texts_in ds ≡ Some ts → AllByRecursion (λ o. IfSome o IsBare) os
 joined_bare fs [] ds ts e h = tt
 joined_bare [] (o ∷ os) ds ts e h = absurd (none-some ds e)
 joined_bare (f ∷ fs) (None ∷ os) ds ts e h = absurd (none-some ds e)
@@ -256,7 +258,7 @@ struct_reached (S.StringJoin delim) fs os t clear plain e =
 
 -- ---- members of unions
 
-value_back : (es : List (List ℕ × Data)) (k : List ℕ) (p : ℕ × Data) → value_in k (T.members_of es) ≡ Some p → value_at k es ≡ Some p.1
+pub value_back : (es : List (List ℕ × Data)) (k : List ℕ) (p : ℕ × Data) → value_in k (T.members_of es) ≡ Some p → value_at k es ≡ Some p.1
 value_back [] k p h = absurd (none-some p h)
 value_back (m ∷ es) k p h = by (same_text k m.0) h (value_back es k) where
   by : (b : Bool) → cond b (Some (length (spell_text m.0), m.1)) (moved (length (spell_text m.0 ++ spell m.1)) (value_in k (T.members_of es))) ≡ Some p
@@ -345,7 +347,7 @@ marked_reached s (UF.Inline k) d t m name keys is e =
     let y = then_from (inlined k name) (members_in d) t e in
     let z = true_from (is_none (value_at k y.item)) (map_data (put k (T.text name) y.item)) t y.made in
     let own : d ≡ map_data y.item = only_map_data d y.item y.there in
-    let found = put_keeps k (T.text name) y.item (is_none_says (value_at k y.item) z.0) in
+    let found = put_keeps k (T.text name) y.item (none_is (value_at k y.item) z.0) in
     λ way l. subst (Leads way) z.1 (inlined_leads y.item (put k (T.text name) y.item) found way (subst (Leads way) own l))
 
 member_reached : (s : Slot) (form : UnionForm) (d t : Data) (m : Member) → KeysApart form → member_form form d m ≡ Some t → IsReached t (value_spot s d (member_steps form m))

@@ -5,6 +5,9 @@ use Rattle.std.specs.Option.{option_map_or}
 use Rattle.std.specs.List.{AllByRecursion, flat_map}
 use Rattle.std.specs.Cmp.Lexicographic.{same_text as text_same, other_text}
 use Rattle.std.proofs.lemmas.Option.{same_Some, none-some}
+use Rattle.std.proofs.lemmas.Bool.{and_parts}
+use Rattle.ild_data.proofs.Options.{none_is}
+use Rattle.ild_data.proofs.AllOf.{all_at}
 use Rattle.ild_data.specs.Data as T
 use Rattle.ild_data.specs.Data.{Data}
 use Rattle.ild_data.specs.Bytes.{AreBytes}
@@ -36,7 +39,7 @@ use Rattle.ild_schema.specs.Clear.{IsGiven, AreNamesApart, ClearStruct, ClearMap
 use Rattle.ild_schema.specs.Delims.{HasDelims, MapDelims, Delims}
 use Rattle.ild_schema.specs.Spelled.{SpelledStruct, SpelledMap, SpelledType, SpelledScalar, ImplicitType}
 use Rattle.ild_typed.specs.Layer as L
-use Rattle.ild_typed.specs.Layer.{Layer, as_list, as_map, as_struct, as_union}
+use Rattle.ild_typed.specs.Layer.{Layer, as_list, as_struct, as_union}
 use Rattle.ild_typed.specs.Kinds.{kind_word_of}
 use Rattle.ild_typed.specs.Texts.{join, join_pairs}
 use Rattle.ild_typed.specs.Fields.{is_implicit, field_entries, are_absent, tuple_items, all_items}
@@ -47,14 +50,13 @@ use Rattle.ild_typed.specs.Node.{IsSlot, IsRoot}
 use Rattle.ild_typed.specs.Spots.{Spot, value_spot, element_spots, entry_spots, field_steps, field_spots, member_spots, spots_of}
 use Rattle.ild_typed.specs.RootSpots.{bucket_spots, root_spots}
 use Rattle.ild_typed.specs.Refused.{AreParts}
-use Rattle.ild_typed.proofs.Basics.{then_from, map_from, true_from, both_true}
+use Rattle.ild_typed.proofs.Basics.{then_from, map_from, true_from}
 use Rattle.ild_typed.proofs.Entries.{both_from, only_text_data, only_bytes_data, value_sorted, value_put, value_first}
 use Rattle.ild_typed.proofs.Onlies.{only_list, only_struct, only_union}
 use Rattle.ild_typed.proofs.Structs.{scalar_data, scalar_same, written, field_from, look, past, not_there}
 use Rattle.ild_typed.proofs.CleanStructs.{pairs_are_texts}
 use Rattle.ild_typed.proofs.PieceTexts.{behind_text, join_parts_text, join_pairs_text}
-use Rattle.ild_typed.proofs.Treed.{all_at}
-use Rattle.ild_typed.proofs.Unions.{without_put, only_map_data, is_none_says}
+use Rattle.ild_typed.proofs.Unions.{without_put, only_map_data}
 use Rattle.ild_typed.proofs.Utf8Texts.{ArePairs}
 
 abbrev pub AllTrees : List Spot → Type 0
@@ -162,7 +164,7 @@ absent_trees : (fs : List Field) (os : List (Option Data)) → are_absent fs os 
 absent_trees fs [] e = tt
 absent_trees [] (o ∷ os) e = absurd cc
 absent_trees (f ∷ fs) (Some d ∷ os) e = absurd cc
-absent_trees (f ∷ fs) (None ∷ os) e = (tt, absent_trees fs os (both_true f.optional (are_absent fs os) e).1)
+absent_trees (f ∷ fs) (None ∷ os) e = (tt, absent_trees fs os (and_parts f.optional (are_absent fs os) e).1)
 
 tuple_trees : (fs : List Field) (os : List (Option Data)) (ds : List Data) → tuple_items fs os ≡ Some ds → AllByRecursion IsTree ds → AllByRecursion MaybeTree os
 tuple_trees fs [] ds e all = tt
@@ -259,7 +261,7 @@ marked_tree (UF.Inline key) d t name keys u e tree =
     let y = then_from (inlined key name) (members_in d) t e in
     let z = true_from (is_none (value_at key y.item)) (map_data (put key (T.text name) y.item)) t y.made in
     let whole : IsTree (map_data (put key (T.text name) y.item)) = subst IsTree (sym z.1) tree in
-    let back = without_put key (T.text name) y.item (is_none_says (value_at key y.item) z.0) in
+    let back = without_put key (T.text name) y.item (none_is (value_at key y.item) z.0) in
     let all = subst (AllByRecursion IsEntry) back (entries_without key (put key (T.text name) y.item) (members_entries (put key (T.text name) y.item) whole)) in
     let up = subst Rises back (rises_without key (put key (T.text name) y.item) (rises_of (put key (T.text name) y.item) whole)) in
     subst IsTree (sym (only_map_data d y.item y.there)) (entries_members y.item all up)

@@ -3,6 +3,8 @@ use Rattle.std.proofs.Common.{◌≡◌, ℕ, zero, suc, ◌-◌, List, [], ◌�
 use Rattle.std.specs.Prelude.{is_some, if◌then◌else◌}
 use Rattle.std.specs.List.{AllByRecursion}
 use Rattle.std.proofs.lemmas.List.{append-nil}
+use Rattle.std.proofs.lemmas.Bool.{or_parts}
+use Rattle.ild_data.proofs.AllOf.{all_indexed}
 use Rattle.ild_data.specs.Data.{Data}
 use Rattle.ild_data.specs.Tree.{IsTree}
 use Rattle.ild_schema.specs.declared.number.Slot.{Slot}
@@ -17,7 +19,7 @@ use Rattle.ild_schema.specs.Places.{first_place}
 use Rattle.ild_schema.specs.Rules.{is_bare_join, is_field_wrong}
 use Rattle.ild_schema.specs.Value.{Value}
 use Rattle.ild_schema.proofs.Legibly.{legible}
-use Rattle.ild_schema.proofs.Passing.{all_pass, all_of}
+use Rattle.ild_schema.proofs.Passing.{all_pass}
 use Rattle.ild_schema.proofs.Ruling.{Passes, def_passes}
 use Rattle.ild_typed.specs.Fits.{FitsPast}
 use Rattle.ild_typed.specs.Pieces.{needs}
@@ -27,7 +29,6 @@ use Rattle.ild_typed.specs.Spots.{Spot}
 use Rattle.ild_typed.specs.Why as W
 use Rattle.ild_typed.specs.Why.{Why}
 use Rattle.ild_typed.specs.WayLaws.{Leads, IsReached, PartsAreReached, RefusalsAreReached}
-use Rattle.ild_typed.proofs.Cleans.{or_false}
 use Rattle.ild_typed.proofs.PartsReached.{TuplePlain, parts_reached}
 use Rattle.ild_typed.proofs.WaySteps.{itself}
 use Rattle.ild_typed.proofs.WalkForms.{table_parts}
@@ -38,12 +39,12 @@ no_value : {A : Type 0} (o : Option A) → is_some o ≡ false → o ≡ None
 no_value None e = refl
 no_value (Some a) e = absurd cc
 
-tuple_field : (f : Field) → is_field_wrong S.Tuple f ≡ false → f.implicit ≡ None
-tuple_field f fine = no_value f.implicit (or_false (is_some f.rename) (is_some f.implicit) fine).1
+pub tuple_field : (f : Field) → is_field_wrong S.Tuple f ≡ false → f.implicit ≡ None
+tuple_field f fine = no_value f.implicit (or_parts (is_some f.rename) (is_some f.implicit) fine).1
 
-plain_struct : (form : StructForm) (at : ℕ) (fs : List Field) → (if is_bare_join form fs then Some at else first_place (is_field_wrong form) (λ f. f.at) fs) ≡ None → form ≡ S.Tuple
+pub plain_struct : (form : StructForm) (at : ℕ) (fs : List Field) → (if is_bare_join form fs then Some at else first_place (is_field_wrong form) (λ f. f.at) fs) ≡ None → form ≡ S.Tuple
     → AllByRecursion (λ f. f.implicit ≡ None) fs
-plain_struct S.Tuple at fs h is = all_of (λ (f : Field). f.implicit ≡ None) fs (λ i f e. tuple_field f (all_pass (is_field_wrong S.Tuple) (λ f. f.at) fs h i f e))
+plain_struct S.Tuple at fs h is = all_indexed (λ (f : Field). f.implicit ≡ None) fs (λ i f e. tuple_field f (all_pass (is_field_wrong S.Tuple) (λ f. f.at) fs h i f e))
 plain_struct S.Map at fs h is = absurd cc
 plain_struct S.ListPairs at fs h is = absurd cc
 plain_struct (S.StringPairs inner entry) at fs h is = absurd cc

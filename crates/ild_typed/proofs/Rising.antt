@@ -16,7 +16,7 @@ pub rises_sorted : (ps : List (List ℕ × Data)) → Rises (in_key_order ps)
 rises_sorted [] = tt
 rises_sorted (p ∷ ps) = rises_put p.0 p.1 (in_key_order ps) (rises_sorted ps)
 
-not_itself : (k l : List ℕ) → key_cmp k l ≡ Less → k ≡ l → ⊥
+pub not_itself : (k l : List ℕ) → key_cmp k l ≡ Less → k ≡ l → ⊥
 not_itself k l less same = let h : Equal ≡ Less = sym (key_equal k) ∙ ap (key_cmp k) same ∙ less in absurd cc
 
 module _ {V : Type 0} where

@@ -4,7 +4,7 @@ use Rattle.std.specs.Prelude.{ℤ, pos, negsuc}
 use Rattle.std.specs.List.{AllByRecursion}
 use Rattle.std.specs.Cmp.Lexicographic.{same_text as text_same, other_text}
 use Rattle.std.proofs.lemmas.Option.{same_Some, none-some}
-use Rattle.std.proofs.lemmas.Bool.{eqb-true}
+use Rattle.std.proofs.lemmas.Bool.{eqb-true, and_parts}
 use Rattle.ild_data.specs.Data as T
 use Rattle.ild_data.specs.Data.{Data}
 use Rattle.ild_data.specs.Key.{same_text, value_at}
@@ -14,7 +14,7 @@ use Rattle.ild_schema.specs.declared.def.Scalar.TheVariants as C
 use Rattle.ild_typed.specs.Fields.{same_bool, same_int, is_scalar, is_implicit, entries_of, field_entries, are_absent, tuple_items, all_items}
 use Rattle.ild_schema.specs.Marks.{field_text}
 use Rattle.ild_schema.specs.Clear.{AreNamesApart, IsRequired, AreClearFields}
-use Rattle.ild_typed.proofs.Basics.{map_from, true_from, both_true}
+use Rattle.ild_typed.proofs.Basics.{map_from, true_from}
 use Rattle.ild_typed.proofs.Entries.{value_first}
 
 -- ---- the implicit value
@@ -178,7 +178,7 @@ absent_same (f ∷ fs) (o ∷ os) [] e k = absurd cc
 absent_same (f ∷ fs) (Some d ∷ os) (u ∷ us) e k = absurd cc
 absent_same (f ∷ fs) (None ∷ os) (Some d ∷ us) e k = absurd cc
 absent_same (f ∷ fs) (None ∷ os) (None ∷ us) e k =
-    ap (λ xs. None ∷ xs) (absent_same fs os us (both_true f.optional (are_absent fs os) e).1 (both_true f.optional (are_absent fs us) k).1)
+    ap (λ xs. None ∷ xs) (absent_same fs os us (and_parts f.optional (are_absent fs os) e).1 (and_parts f.optional (are_absent fs us) k).1)
 
 -- a tuple's items tell its fields
 pub tuple_tells : (fs : List Field) (os us : List (Option Data)) (ds : List Data) → tuple_items fs os ≡ Some ds → tuple_items fs us ≡ Some ds → os ≡ us

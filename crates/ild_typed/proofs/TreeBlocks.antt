@@ -3,6 +3,7 @@ use Rattle.std.specs.Option.{option_map_or}
 use Rattle.std.proofs.Common.{◌≡◌, ℕ, zero, suc, ◌+◌, ◌-◌, ◌^◌, ◌≤◌, nat_le, List, [], ◌∷◌, ◌++◌, length, Bool, true, false, cond, Option, Some, None, IsUtf8, refl, sym, subst, arith, ◌∙◌, ap, option_map}
 use Rattle.std.specs.Prelude.{IsSomeAnd, is_some, nat_eq}
 use Rattle.std.specs.List.{AllByRecursion, flat_map, range_with_len}
+use Rattle.ild_data.proofs.AllOf.{all_append, all_split, all_filter}
 use Rattle.ild_data.specs.Data.{Data, depth}
 use Rattle.ild_data.specs.Tree.{IsTree}
 use Rattle.ild_data.specs.Limits.{deepest, longest_block}
@@ -32,8 +33,8 @@ use Rattle.ild_typed.specs.Blocks.{hamt_nodes, nodes, nodes_of_values, nodes_of_
 use Rattle.ild_typed.specs.Stands.{Frame, IsFrame, blocks_of, Storable}
 use Rattle.ild_typed.specs.Nested.{TreeIn, BlockIn, IsBlock}
 use Rattle.ild_schema.specs.Spelled.{IsSpelled}
-use Rattle.ild_typed.proofs.Treed.{all_append, EntryIn, in_more}
-use Rattle.ild_typed.proofs.TreeNodes.{all_split, part_in, sorted_in, node_of_in}
+use Rattle.ild_typed.proofs.Treed.{EntryIn, in_more}
+use Rattle.ild_typed.proofs.TreeNodes.{sorted_in, node_of_in}
 use Rattle.ild_typed.proofs.TreeParts.{list_fits, struct_fits, union_fits, map_fits, pairs_in}
 use Rattle.ild_typed.proofs.TreeValues.{whole_past, whole_tree}
 use Rattle.ild_typed.proofs.Rooms.{all_more}
@@ -47,7 +48,7 @@ all_flat : {X A : Type 0} (P : A → Type 0) (f : X → List A) (xs : List X) �
 all_flat P f [] each = tt
 all_flat P f (x ∷ xs) each = all_append P (f x) (flat_map f xs) (each x) (all_flat P f xs each)
 
-block_in : (n : ℕ) (o : Option Data) → ((d : Data) → o ≡ Some d → TreeIn n d) → AllByRecursion (BlockIn n) (block_of o)
+pub block_in : (n : ℕ) (o : Option Data) → ((d : Data) → o ≡ Some d → TreeIn n d) → AllByRecursion (BlockIn n) (block_of o)
 block_in n None each = tt
 block_in n (Some d) each = (record { of = d; is = refl; fits = each d refl }, tt)
 
@@ -62,7 +63,7 @@ blocks_beneath n h p zero depth es all = tt
 blocks_beneath n h p (suc left) depth es all =
     all_flat (BlockIn (n + 4)) (λ i. node_and_beneath p.bucket (node_of h p left (depth + 1)) (nodes_beneath h p left (depth + 1)) (part (at_depth h p depth) es i)) (range_with_len 0 (2 ^ p.width))
     (λ i. let piece : List (List ℕ × Data) = part (at_depth h p depth) es i in
-    let good : AllByRecursion (EntryIn n) piece = part_in (EntryIn n) (λ e. nat_eq (at_depth h p depth e.0) i) es all in
+    let good : AllByRecursion (EntryIn n) piece = all_filter (EntryIn n) (λ e. nat_eq (at_depth h p depth e.0) i) es all in
     beneath_in (n + 4) (nat_le (length piece) p.bucket) (node_of h p left (depth + 1)) (nodes_beneath h p left (depth + 1)) piece
     (λ d e. node_of_in n h p left (depth + 1) piece d good e) (blocks_beneath n h p left (depth + 1) piece good))
 

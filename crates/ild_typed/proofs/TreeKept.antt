@@ -7,6 +7,7 @@ use Rattle.std.specs.Prelude.{is_some, IfSome}
 use Rattle.std.specs.List.{AllByRecursion, flat_map, range_with_len}
 use Rattle.std.proofs.lemmas.Option.{same_Some, none-some}
 use Rattle.std.proofs.lemmas.Bool.{eqb-false}
+use Rattle.ild_data.proofs.AllOf.{all_both, all_split, all_filter}
 use Rattle.ild_data.specs.Data.{Data, depth}
 use Rattle.ild_data.specs.Key.{Rises}
 use Rattle.ild_data.specs.Tree.{IsTree}
@@ -51,7 +52,7 @@ use Rattle.ild_typed.proofs.OneValue.{plain_safe, Way, as_null, as_layer, way_of
 use Rattle.ild_typed.proofs.Wholes.{one_block, one_within, whole_law}
 use Rattle.ild_hamt_trie.proofs.Index.{index_below}
 use Rattle.ild_typed.proofs.Treed.{EntryIn}
-use Rattle.ild_typed.proofs.TreeNodes.{all_split, part_in, sorted_in, node_of_in}
+use Rattle.ild_typed.proofs.TreeNodes.{sorted_in, node_of_in}
 use Rattle.ild_typed.proofs.TreeParts.{KeysFit, list_fits, struct_fits, union_fits, map_fits, rises_pairs, pairs_in}
 use Rattle.ild_typed.proofs.TreeValues.{form_fits, whole_past, whole_tree}
 use Rattle.ild_typed.proofs.TreeBlocks.{blocks_within}
@@ -102,7 +103,7 @@ module _ (P : List ℕ → Type 0) (K : Data → Type 0) (known : (d : Data) →
       let inside : i < 2 ^ p.width = part_index (at_depth h p depth) (2 ^ p.width) i es (λ k. index_below p (h k) depth) (omega (arith, big)) in
       let here = range_at P (λ j. node_and_beneath p.bucket below beneath (part (at_depth h p depth) es j)) 0 (2 ^ p.width) i (omega arith) (omega (arith, inside)) all in
       let x = one_node p.bucket below beneath piece d big has here in
-      let good : AllByRecursion (EntryIn n) piece = part_in (EntryIn n) (λ e. at_depth h p depth e.0 == i) es trees in
+      let good : AllByRecursion (EntryIn n) piece = all_filter (EntryIn n) (λ e. at_depth h p depth e.0 == i) es trees in
       (known d (node_of_in n h p left (depth + 1) piece d good has).tree x.0, known_beneath n h p left (depth + 1) piece good x.1)
 
   -- ---- the HAMTs of a value
@@ -249,10 +250,6 @@ module _ (P : List ℕ → Type 0) (K : Data → Type 0) (known : (d : Data) →
     kept_value spelled room s v t f e all = kept_past spelled room zero s v t f e all
 
 -- ---- one value stands
-
-all_both : {X : Type 0} (P Q : X → Type 0) (xs : List X) → AllByRecursion P xs → AllByRecursion Q xs → AllByRecursion (λ x. P x × Q x) xs
-all_both P Q [] a b = tt
-all_both P Q (x ∷ xs) a b = ((a.0, b.0), all_both P Q xs a.1 b.1)
 
 within_block : (n : Data) → IsTree n → IsBlock (spell n) → IsWithin n
 within_block n tree b = subst IsWithin (one_within b.of n b.within tree (sym b.is)) b.within

@@ -1,14 +1,15 @@
 -- The nodes of a HAMT are trees where the values of its entries are, and so is its root map: five levels above the values
 -- of the root block, and four in the block of a node beneath.
-use Rattle.std.proofs.Common.{◌≡◌, ℕ, zero, suc, ◌+◌, ◌-◌, ◌*◌, ◌^◌, ◌<◌, ◌≤◌, pos, codes, List, [], ◌∷◌, ◌++◌, length, map, take, drop, Bool, true, false, cond, Option, Some, None, IsUtf8, refl, sym, ap, subst, arith, le→leb, pow-suc, pow_pos}
+use Rattle.std.proofs.Common.{◌≡◌, ℕ, zero, suc, ◌+◌, ◌-◌, ◌*◌, ◌^◌, ◌<◌, ◌≤◌, pos, codes, List, [], ◌∷◌, length, map, take, drop, Bool, true, false, cond, Option, Some, None, IsUtf8, refl, sym, ap, subst, arith, le→leb, pow-suc, pow_pos}
 use Rattle.std.specs.Prelude.{nat_eq, ◌/◌}
-use Rattle.std.specs.List.{AllByRecursion, flat_map, filter, range_with_len}
+use Rattle.std.specs.List.{AllByRecursion, flat_map, range_with_len}
 use Rattle.std.proofs.lemmas.Option.{same_Some, none-some}
 use Rattle.std.proofs.Math.Utf8.{encode}
 use Rattle.std.specs.FinMap.{put as insert}
 use Rattle.std.specs.Ordering.{match_ordering}
 use Rattle.std.specs.declared.cmp.Ordering.{Ordering}
 use Rattle.std.specs.declared.cmp.Ordering.TheVariants.{Less, Equal, Greater}
+use Rattle.ild_data.proofs.AllOf.{all_split, all_filter}
 use Rattle.ild_data.specs.Data as T
 use Rattle.ild_data.specs.Data.{Data}
 use Rattle.ild_data.specs.Bytes.{AreBytes}
@@ -20,7 +21,6 @@ use Rattle.ild_data.specs.TrieShape.{trie_levels}
 use Rattle.ild_data.specs.ByteOrder.{in_byte_order, bytewise, no_key_twice}
 use Rattle.ild_data.specs.Trie.{TrieSlot, empty, bucket, child, is_used, bucket_entries, byte_of, map_of, entry_data, elements_of, node_data, part, slot_of, all_some, node_of, at_depth, slots_at, trie}
 use Rattle.ild_typed.specs.Layer as L
-use Rattle.ild_typed.specs.Layer.{Layer, as_map, as_hamt}
 use Rattle.ild_typed.specs.Hamt.{root_map, whole}
 use Rattle.ild_typed.specs.Node.{IsSlot, IsRoot, entries_in}
 use Rattle.ild_typed.specs.Nested.{TreeIn}
@@ -126,10 +126,6 @@ slot_in p n (bucket es) is all = both es is.3 all where
   both [] a b = tt
   both (e ∷ es) a b = ((a.0, b.0), both es a.1 b.1)
 
-pub all_split : {X : Type 0} (P : X → Type 0) (xs ys : List X) → AllByRecursion P (xs ++ ys) → AllByRecursion P xs × AllByRecursion P ys
-all_split P [] ys all = (tt, all)
-all_split P (x ∷ xs) ys all = let rest = all_split P xs ys all.1 in ((all.0, rest.0), rest.1)
-
 slots_in : (p : HamtShape) (n : ℕ) (slots : List TrieSlot) → AllByRecursion (IsSlot p) slots → AllByRecursion (λ e. TreeIn n e.1) (entries_in slots) → AllByRecursion (SlotIn n) slots
 slots_in p n [] is all = tt
 slots_in p n (z ∷ slots) is all =
@@ -141,13 +137,6 @@ pub front_in : (p : HamtShape) (n : ℕ) (slots : List TrieSlot) (d : Data) → 
 front_in p n slots d root all = subst (TreeIn (n + 5)) (sym root.tree) (root_in p n (node_data slots) (node_in n slots (slots_in p n slots root.each all)))
 
 -- ---- the trie of entries
-
-pub part_in : {X : Type 0} (P : X → Type 0) (test : X → Bool) (xs : List X) → AllByRecursion P xs → AllByRecursion P (filter test xs)
-part_in P test [] all = tt
-part_in P test (x ∷ xs) all = by (test x) (part_in P test xs all.1) where
-  by : (b : Bool) → AllByRecursion P (filter test xs) → AllByRecursion P (cond b (x ∷ filter test xs) (filter test xs))
-  by true rest = (all.0, rest)
-  by false rest = rest
 
 insert_in : (n : ℕ) (k : List ℕ) (d : Data) (ms : List (List ℕ × Data)) → EntryIn n (k, d) → AllByRecursion (EntryIn n) ms → AllByRecursion (EntryIn n) (insert bytewise k d ms)
 insert_in n k d [] p all = (p, tt)
@@ -175,7 +164,7 @@ all_slots n most at below es (i ∷ is) slots all e = by (slot_of most below (pa
   by (Some z) later h k =
       let x = map_from (λ zs. z ∷ zs) (all_some (map (λ j. slot_of most below (part at es j)) is)) slots k in
       subst (AllByRecursion (SlotIn n)) (same_Some (z ∷ x.item) slots x.made)
-      (way_in n most below (part at es i) z (part_in (EntryIn n) (λ e. nat_eq (at e.0) i) es all) (slot_way most below (part at es i) z h), later x.item x.there)
+      (way_in n most below (part at es i) z (all_filter (EntryIn n) (λ e. nat_eq (at e.0) i) es all) (slot_way most below (part at es i) z h), later x.item x.there)
 
 pub node_of_in : (n : ℕ) (h : List ℕ → List ℕ) (p : HamtShape) (left depth : ℕ) (es : List (List ℕ × Data)) (d : Data) → AllByRecursion (EntryIn n) es → node_of h p left depth es ≡ Some d → TreeIn (n + 4) d
 unfolding node_of

@@ -5,6 +5,7 @@ use Rattle.std.specs.Prelude.{slice_get}
 use Rattle.std.specs.List.{AllByRecursion}
 use Rattle.std.proofs.lemmas.Option.{none-some}
 use Rattle.std.proofs.lemmas.Str.{IsUtf8-nil}
+use Rattle.ild_data.proofs.AllOf.{all_at}
 use Rattle.ild_data.specs.Data as T
 use Rattle.ild_data.specs.Data.{Data, depth, items_depth}
 use Rattle.ild_data.specs.Tree.{IsTree, AreTrees}
@@ -38,7 +39,7 @@ use Rattle.ild_typed.specs.Shown.{shown, shown_values, shown_pairs, shown_fields
 use Rattle.ild_typed.specs.Nested.{TreeIn}
 use Rattle.ild_schema.specs.Spelled.{IsSpelled, NamedType, IsNamed}
 use Rattle.ild_typed.proofs.Rising.{rises_sorted}
-use Rattle.ild_typed.proofs.Treed.{EntryIn, all_sorted, in_more, map_in, text_is, all_at}
+use Rattle.ild_typed.proofs.Treed.{EntryIn, all_sorted, in_more, map_in, text_is}
 use Rattle.ild_typed.proofs.TreeParts.{RootOf, list_fits, struct_fits, union_fits, map_fits, hamt_fits, no_type_map, text_fits, bytes_fit, link_fits, int_fits}
 use Rattle.ild_typed.proofs.TreeBlocks.{formed}
 use Rattle.ild_typed.proofs.TreeValues.{alone_tree}

@@ -1,5 +1,5 @@
 -- The data of a layer are a tree where those of its parts are, and nest no deeper than the levels of its form say.
-use Rattle.std.proofs.Common.{◌≡◌, ℕ, zero, suc, ◌+◌, ◌≤◌, List, [], ◌∷◌, ◌++◌, map, Bool, true, false, cond, Option, Some, None, option_map, IsUtf8, refl, sym, subst, arith}
+use Rattle.std.proofs.Common.{◌≡◌, ℕ, ◌+◌, ◌≤◌, List, [], ◌∷◌, ◌++◌, map, Bool, true, false, cond, Option, Some, None, option_map, IsUtf8, refl, sym, subst, arith}
 use Rattle.std.specs.Prelude.{IfSome, slice_get, option_and_then, is_none, unwrap_or}
 use Rattle.std.specs.List.{AllByRecursion}
 use Rattle.std.specs.Ordering.{match_ordering}
@@ -7,6 +7,7 @@ use Rattle.std.specs.declared.cmp.Ordering.{Ordering}
 use Rattle.std.specs.declared.cmp.Ordering.TheVariants.{Less, Equal, Greater}
 use Rattle.std.proofs.lemmas.Option.{same_Some, none-some}
 use Rattle.std.proofs.lemmas.Str.{IsUtf8-append}
+use Rattle.ild_data.proofs.AllOf.{all_append, all_at}
 use Rattle.ild_data.specs.Data as T
 use Rattle.ild_data.specs.Data.{Data, depth, items_depth, members_depth}
 use Rattle.ild_data.specs.Key.{key_cmp, put, value_at, IsBelow, Rises}
@@ -53,15 +54,6 @@ use Rattle.ild_typed.proofs.Rising.{rises_sorted}
 use Rattle.ild_typed.proofs.Utf8Texts.{ArePairs, join_utf8, join_pairs_utf8, bytes_append, hex_are_bytes, decimal_is_int}
 
 -- ---- lists and maps of trees
-
-pub all_append : {X : Type 0} (P : X → Type 0) (xs ys : List X) → AllByRecursion P xs → AllByRecursion P ys → AllByRecursion P (xs ++ ys)
-all_append P [] ys a b = b
-all_append P (x ∷ xs) ys a b = (a.0, all_append P xs ys a.1 b)
-
-pub all_at : {X : Type 0} (P : X → Type 0) (xs : List X) (i : ℕ) (x : X) → AllByRecursion P xs → slice_get xs i ≡ Some x → P x
-all_at P [] i x all e = absurd (none-some x e)
-all_at P (y ∷ ys) zero x all e = subst P (same_Some y x e) all.0
-all_at P (y ∷ ys) (suc i) x all e = all_at P ys i x all.1 e
 
 pub all_put : (P : List ℕ × Data → Type 0) (k : List ℕ) (d : Data) (ms : List (List ℕ × Data)) → P (k, d) → AllByRecursion P ms → AllByRecursion P (put k d ms)
 all_put P k d [] p all = (p, tt)

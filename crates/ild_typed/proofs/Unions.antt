@@ -7,6 +7,7 @@ use Rattle.std.specs.declared.cmp.Ordering.{Ordering}
 use Rattle.std.specs.declared.cmp.Ordering.TheVariants.{Less, Equal, Greater}
 use Rattle.std.proofs.lemmas.Option.{same_Some, none-some}
 use Rattle.std.proofs.lemmas.Bool.{eqb-true, eq-eqb}
+use Rattle.ild_data.proofs.Options.{none_is}
 use Rattle.ild_data.specs.Data as T
 use Rattle.ild_data.specs.Data.{Data}
 use Rattle.ild_data.specs.Key.{key_cmp, same_text, put, value_at, without}
@@ -111,7 +112,7 @@ bytes_meet m n d e p q t mp nq h k =
 
 -- ---- maps of one or two entries
 
-text_same_data : (a b : List ℕ) → T.text a ≡ T.text b → a ≡ b
+pub text_same_data : (a b : List ℕ) → T.text a ≡ T.text b → a ≡ b
 text_same_data a b e = ap text_inside e
 
 same_text_clash : (m n : Member) (a b : List ℕ) → read_text m ≡ Some a → read_text n ≡ Some b → a ≡ b → SameText m n
@@ -188,10 +189,6 @@ pub only_map_data : (d : Data) (ms : List (List ℕ × Data)) → members_in d �
 only_map_data (T.map ns) ms e = ap T.map (sym (members_again ns) ∙ ap T.members_of (same_Some (T.members_list ns) ms e))
 only_map_data d ms e = absurd (none-some ms e)
 
-pub is_none_says : {A : Type 0} (o : Option A) → is_none o ≡ true → o ≡ None
-is_none_says None e = refl
-is_none_says (Some a) e = absurd cc
-
 inline_meet : (key : List ℕ) (m n : Member) (d e : Data) (a b : List ℕ) (t : Data) → read_text m ≡ Some a → read_text n ≡ Some b
     → marked_form (UF.Inline key) d a ≡ Some t → marked_form (UF.Inline key) e b ≡ Some t → Meet (UF.Inline key) m n d e
 inline_meet key m n d e a b t ma nb h k =
@@ -201,8 +198,8 @@ inline_meet key m n d e a b t ma nb h k =
     let y_in = true_from (is_none (value_at key y.item)) (map_data (put key (T.text b) y.item)) t y.made in
     let whole = map_tells (put key (T.text a) x.item) (put key (T.text b) y.item) (x_in.1 ∙ sym y_in.1) in
     let rest : x.item ≡ y.item
-    = sym (without_put key (T.text a) x.item (is_none_says (value_at key x.item) x_in.0)) ∙ ap (without key) whole
-    ∙ without_put key (T.text b) y.item (is_none_says (value_at key y.item) y_in.0) in
+    = sym (without_put key (T.text a) x.item (none_is (value_at key x.item) x_in.0)) ∙ ap (without key) whole
+    ∙ without_put key (T.text b) y.item (none_is (value_at key y.item) y_in.0) in
     record {
       clash = inl (same_text_clash m n a b ma nb (disc_same key a b x.item y.item whole));
       same = λ one. only_map_data d x.item x.there ∙ ap map_data rest ∙ sym (only_map_data e y.item y.there);

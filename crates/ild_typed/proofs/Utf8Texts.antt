@@ -5,7 +5,7 @@ use Rattle.std.specs.List.{AllByRecursion}
 use Rattle.std.specs.Int.{to_be_bytes, w32}
 use Rattle.std.proofs.lemmas.Option.{same_Some, none-some}
 use Rattle.std.specs.List.{list_all}
-use Rattle.std.proofs.lemmas.Bool.{ltb-false}
+use Rattle.std.proofs.lemmas.Bool.{ltb-false, and_parts}
 use Rattle.std.proofs.lemmas.Str.{IsUtf8-append, IsUtf8-nil}
 use Rattle.std.proofs.Math.Utf8.{encode, scalar, scalars, encodes, scalar_cases}
 use Rattle.sha2.specs.Sha256.{sha256, digest_bytes, final_hash, initial_hash_256}
@@ -19,7 +19,7 @@ use Rattle.ild_typed.specs.Texts.{join, join_pairs, is_parted, same_places, plac
 use Rattle.ild_schema.specs.Joins.{joined, pair_text}
 use Rattle.ild_schema.specs.Hex.{hex_digit, hex_byte, bytes_of_hex}
 use Rattle.ild_schema.specs.Decimal.{natural_of, below_zero, from_zero, decimal_of}
-use Rattle.ild_typed.proofs.Basics.{then_from, map_from, true_from, if_from, both_true}
+use Rattle.ild_typed.proofs.Basics.{then_from, map_from, true_from, if_from}
 
 -- ---- texts
 
@@ -51,7 +51,7 @@ pub bytes_append : (s t : List ℕ) → AreBytes s → AreBytes t → AreBytes (
 bytes_append [] t a b = b
 bytes_append (c ∷ s) t a b = (a.0, bytes_append s t a.1 b)
 
-be_bytes : (n : ℕ) → AreBytes (to_be_bytes w32 n)
+pub be_bytes : (n : ℕ) → AreBytes (to_be_bytes w32 n)
 be_bytes n = (omega arith, (omega arith, (omega arith, (omega arith, tt))))
 
 digest_are_bytes : (h : List ℕ) (n : ℕ) → AreBytes (digest_bytes h n)
@@ -90,7 +90,7 @@ char_bytes c s = by (ltb c 128) (ltb c 2048) (ltb c 65536) refl refl refl where
 
 chars_bytes : (cs : List ℕ) → scalars cs ≡ true → AreBytes (encodes cs)
 chars_bytes [] e = tt
-chars_bytes (c ∷ cs) e = let p = both_true (scalar c) (scalars cs) e in bytes_append (encode c) (encodes cs) (char_bytes c p.0) (chars_bytes cs p.1)
+chars_bytes (c ∷ cs) e = let p = and_parts (scalar c) (scalars cs) e in bytes_append (encode c) (encodes cs) (char_bytes c p.0) (chars_bytes cs p.1)
 
 pub utf8_bytes : (s : List ℕ) → IsUtf8 s → AreBytes s
 utf8_bytes s (cs, (good, is)) = subst AreBytes is (chars_bytes cs good)
@@ -100,7 +100,7 @@ utf8_bytes s (cs, (good, is)) = subst AreBytes is (chars_bytes cs good)
 digit_small : (c a : ℕ) → hex_digit c ≡ Some a → a < 16
 digit_small c a e = by (nat_le 48 c && nat_le c 57) (nat_le 65 c && nat_le c 70) (nat_le 97 c && nat_le c 102) refl refl refl e where
   upper : (m n : ℕ) → true ≡ nat_le m c && nat_le c n → c ≤ n
-  upper m n h = leb→le c n (subst T (sym (both_true (nat_le m c) (nat_le c n) (sym h)).1) tt)
+  upper m n h = leb→le c n (subst T (sym (and_parts (nat_le m c) (nat_le c n) (sym h)).1) tt)
 
   by : (x y z : Bool) → x ≡ nat_le 48 c && nat_le c 57 → y ≡ nat_le 65 c && nat_le c 70 → z ≡ nat_le 97 c && nat_le c 102
       → cond x (Some (c - 48)) (cond y (Some (c - 55)) (cond z (Some (c - 87)) None)) ≡ Some a → a < 16

@@ -1,10 +1,11 @@
 -- The slots of the parts of a layer are of types of the table.
 use Rattle.ild_schema.specs.declared.def.UnionForm.{UnionForm}
-use Rattle.std.proofs.Common.{◌≡◌, ℕ, zero, suc, ◌+◌, ◌<◌, List, [], ◌∷◌, ◌++◌, length, map, Bool, true, false, cond, Option, Some, None, option_map, refl, sym, subst, arith, lit<}
+use Rattle.std.proofs.Common.{◌≡◌, ℕ, zero, suc, ◌+◌, ◌<◌, List, [], ◌∷◌, ◌++◌, length, map, Bool, true, false, cond, Option, Some, None, option_map, refl, sym, subst, arith}
 use Rattle.std.specs.Prelude.{slice_get}
 use Rattle.std.specs.Option.{option_map_or}
 use Rattle.std.specs.List.{All, AllByRecursion}
 use Rattle.std.proofs.lemmas.Option.{same_Some, none-some, slice_get_within, get_or_from_slice_get}
+use Rattle.ild_schema.proofs.Ending.{target_below}
 use Rattle.ild_data.specs.Data.{Data}
 use Rattle.ild_schema.specs.declared.number.Slot.{Slot}
 use Rattle.ild_schema.specs.declared.number.TypeNo.{TypeNo}
@@ -16,7 +17,7 @@ use Rattle.ild_schema.specs.declared.def.StructForm.{StructForm}
 use Rattle.ild_schema.specs.declared.def.Field.{Field}
 use Rattle.ild_schema.specs.declared.def.Member.{Member}
 use Rattle.ild_schema.specs.declared.row.Row.{Row}
-use Rattle.ild_schema.specs.Copies.{target_of, target_in, followed, base}
+use Rattle.ild_schema.specs.Copies.{target_in, followed, base}
 use Rattle.ild_schema.specs.Table.{IsWithin, numbers_of, def_at}
 use Rattle.ild_schema.proofs.Legibly.{legible}
 use Rattle.ild_typed.specs.Layer as L
@@ -47,18 +48,11 @@ within_at rows within n d e = by (slice_get rows n) refl e where
       let here = slice_get_within rows n r is in
       (subst (IsWithin (length rows)) (same_Some r.def d h) (subst P (get_or_from_slice_get rows n r r is) (within n r here)), here)
 
-target_low : (count : ℕ) (d : TypeDef) (t : ℕ) → IsWithin count d → target_of d ≡ Some t → t < count
-target_low count (D.Copy target) t within h =
-    let low : target.0 < count = within.1 0 0 (lit< tt) in
-    let same : target.0 ≡ t = same_Some target.0 t h in
-    omega (arith, low, same)
-target_low count d t within h = absurd (none-some t h)
-
 target_here : (rows : List Row) → All (λ r. IsWithin (length rows) r.def) rows → (n t : ℕ) → target_in (def_at rows n) ≡ Some t → t < length rows
 target_here rows within n t e = by (def_at rows n) refl e where
   by : (o : Option TypeDef) → def_at rows n ≡ o → target_in o ≡ Some t → t < length rows
   by None is h = absurd (none-some t h)
-  by (Some d) is h = target_low (length rows) d t (within_at rows within n d is).0 h
+  by (Some d) is h = target_below (length rows) d t (within_at rows within n d is).0 h
 
 -- what a type of a table leads to is in the table
 followed_low : (rows : List Row) → All (λ r. IsWithin (length rows) r.def) rows → (k n : ℕ) → n < length rows → followed rows k n < length rows
@@ -73,7 +67,7 @@ form_there rows within s h =
     there_at rows (base rows s.ty.0) (followed_low rows within (length rows) s.ty.0 h)
 
 -- the numbers of parts, one by one
-each_number : {A : Type 0} (f : A → ℕ) (count : ℕ) (xs : List A) → All (λ n. n < count) (map f xs) → AllByRecursion (λ x. f x < count) xs
+pub each_number : {A : Type 0} (f : A → ℕ) (count : ℕ) (xs : List A) → All (λ n. n < count) (map f xs) → AllByRecursion (λ x. f x < count) xs
 each_number f count [] all = tt
 each_number f count (x ∷ xs) all = (all 0 0 (omega arith), each_number f count xs (λ i d h. all (suc i) d (omega (arith, h))))
 

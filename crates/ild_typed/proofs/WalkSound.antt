@@ -5,7 +5,7 @@ use Rattle.std.specs.Option.{option_or, option_map_or}
 use Rattle.std.specs.List.{AllByRecursion}
 use Rattle.std.specs.Cmp.Lexicographic.{same_text as text_same}
 use Rattle.std.proofs.lemmas.Option.{same_Some, none-some}
-use Rattle.std.proofs.lemmas.Bool.{le-ltb}
+use Rattle.std.proofs.lemmas.Bool.{le-ltb, or_from}
 use Rattle.ild_data.specs.Data as T
 use Rattle.ild_data.specs.Data.{Data, depth}
 use Rattle.ild_data.specs.Key.{same_text}
@@ -50,7 +50,7 @@ use Rattle.ild_typed.proofs.Onlies.{only_list, only_map, only_struct, only_union
 use Rattle.ild_typed.proofs.OneValue.{Way, as_null, as_layer, way_of, layer_data, safe_parts, plain_safe}
 use Rattle.ild_typed.proofs.Views.{Elements, Fields, struct_shown, list_shown, union_shown, hamt_shown}
 use Rattle.ild_typed.proofs.ViewMaps.{Entry, map_shown}
-use Rattle.ild_typed.proofs.Cleans.{none_of, false_or, never}
+use Rattle.ild_typed.proofs.Cleans.{none_of, never}
 use Rattle.ild_typed.proofs.CleanPairs.{pairs_names}
 use Rattle.ild_typed.proofs.CleanStructs.{split_of_pairs}
 use Rattle.ild_typed.proofs.CleanTypes.{layer_clean}
@@ -62,10 +62,10 @@ use Rattle.ild_typed.proofs.NodeRoots.{whole_map}
 
 apart_once : (es : List (List ℕ × Data)) → AreKeysApart es → has_twice (names es) ≡ false
 apart_once [] all = refl
-apart_once (e ∷ es) all = false_or (is_among e.0 (names es)) (has_twice (names es)) (by es all.0) (apart_once es all.1) where
+apart_once (e ∷ es) all = or_from (is_among e.0 (names es)) (has_twice (names es)) (by es all.0) (apart_once es all.1) where
   by : (qs : List (List ℕ × Data)) → AllByRecursion (λ (q : List ℕ × Data). e.0 ≡ q.0 → ⊥) qs → is_among e.0 (names qs) ≡ false
   by [] others = refl
-  by (q ∷ qs) others = false_or (same_text e.0 q.0) (is_among e.0 (names qs)) (one (same_text e.0 q.0) refl others.0) (by qs others.1) where
+  by (q ∷ qs) others = or_from (same_text e.0 q.0) (is_among e.0 (names qs)) (one (same_text e.0 q.0) refl others.0) (by qs others.1) where
     one : (b : Bool) → same_text e.0 q.0 ≡ b → (e.0 ≡ q.0 → ⊥) → same_text e.0 q.0 ≡ false
     one true is apart = absurd (apart (text_same e.0 q.0 (sym is)))
     one false is apart = is

@@ -1,10 +1,11 @@
 -- What is not refused has a front that fits.
-use Rattle.std.proofs.Common.{◌≡◌, ℕ, zero, suc, ◌+◌, ◌-◌, ◌≤◌, ◌<◌, List, [], ◌∷◌, ◌++◌, length, Bool, true, false, cond, Option, Some, None, refl, sym, ◌∙◌, ap, subst, arith, inl, inr}
+use Rattle.std.proofs.Common.{◌≡◌, ℕ, zero, suc, ◌+◌, ◌-◌, ◌≤◌, ◌<◌, List, [], ◌∷◌, ◌++◌, Bool, true, false, cond, Option, Some, None, refl, sym, ◌∙◌, ap, subst, arith, inl, inr}
 use Rattle.std.specs.Prelude.{IsTrue, IsSomeAnd, option_and_then, slice_get, nat_lt, ◌⊎◌}
 use Rattle.std.specs.Option.{option_or, option_map_or}
 use Rattle.std.specs.List.{AllByRecursion}
 use Rattle.std.proofs.lemmas.Option.{same_Some, none-some}
-use Rattle.std.proofs.lemmas.Bool.{ltb-false}
+use Rattle.std.proofs.lemmas.Bool.{ltb-false, and_parts, or_parts}
+use Rattle.ild_data.proofs.Gets.{got_below}
 use Rattle.ild_data.specs.Data as T
 use Rattle.ild_data.specs.Data.{Data, depth}
 use Rattle.ild_data.specs.Key.{Rises, same_text}
@@ -27,7 +28,7 @@ use Rattle.ild_schema.specs.Copies.{base}
 use Rattle.ild_schema.specs.Value as V
 use Rattle.ild_schema.specs.Value.{Value}
 use Rattle.ild_typed.specs.Layer as L
-use Rattle.ild_typed.specs.Layer.{Layer, as_boolean, as_integer, as_text, as_bytes, as_link, as_any, as_unit, as_enum, as_list, as_map, as_struct, as_union, as_hamt}
+use Rattle.ild_typed.specs.Layer.{Layer, as_boolean, as_integer, as_text, as_bytes, as_link, as_any, as_unit, as_enum, as_list, as_map, as_struct, as_union}
 use Rattle.ild_schema.specs.Slots.{form_of, plainly}
 use Rattle.ild_typed.specs.Fields.{is_implicit, field_entries, are_absent, tuple_items, all_items}
 use Rattle.ild_typed.specs.Strings.{map_data, listpairs, stringpairs, stringjoin, in_key_order}
@@ -52,12 +53,12 @@ use Rattle.ild_schema.specs.Delims.{AllDelims}
 use Rattle.ild_typed.specs.Node.{IsRoot, entries_in}
 use Rattle.ild_data.specs.Trie as Trie
 use Rattle.ild_data.specs.declared.hamt_shape.HamtShape.{HamtShape}
-use Rattle.ild_typed.proofs.Basics.{map_from, then_from, true_from, both_true}
+use Rattle.ild_typed.proofs.Basics.{map_from, then_from, true_from}
 use Rattle.ild_typed.proofs.Structs.{field_from}
 use Rattle.ild_typed.proofs.Onlies.{only_list, only_map, only_struct, only_union}
 use Rattle.ild_typed.proofs.Views.{Elements, Fields, struct_shows, list_shows, union_shows, hamt_shows}
 use Rattle.ild_typed.proofs.ViewMaps.{Entry, map_shows}
-use Rattle.ild_typed.proofs.Cleans.{clean_of, or_false, never, none_pass}
+use Rattle.ild_typed.proofs.Cleans.{clean_of, never, none_pass}
 use Rattle.ild_typed.proofs.Entries.{same_text_self}
 use Rattle.ild_typed.proofs.CleanPairs.{pairs_names}
 use Rattle.ild_typed.proofs.CleanStructs.{split_of_pairs}
@@ -88,7 +89,7 @@ free room d t e =
     let c = or_none (room_why room d t) (hamt_why d t) b.1 in
     record { own = a.0; keys = b.0; enough = ltb-false room (needs d t) (cond_none (nat_lt room (needs d t)) W.Depth c.0); root = c.1 }
 
-keys_rise : (t : Data) → IsTree t → KeysRise t
+pub keys_rise : (t : Data) → IsTree t → KeysRise t
 keys_rise (T.map ms) tree = rises_list (T.members_list ms) (subst AreEntries (sym (members_of-members_list ms)) tree)
 keys_rise T.null tree = tt
 keys_rise (T.boolean b) tree = tt
@@ -103,7 +104,7 @@ keys_rise (T.link s) tree = tt
 once_apart : (es : List (List ℕ × Data)) → has_twice (names es) ≡ false → AreKeysApart es
 once_apart [] e = tt
 once_apart (e ∷ es) h =
-    let x = or_false (is_among e.0 (names es)) (has_twice (names es)) h in
+    let x = or_parts (is_among e.0 (names es)) (has_twice (names es)) h in
     (by es (none_pass (same_text e.0) (names es) x.0), once_apart es x.1)
   where
     by : (qs : List (List ℕ × Data)) → AllByRecursion (λ k. same_text e.0 k ≡ false) (names qs) → AllByRecursion (λ (q : List ℕ × Data). e.0 ≡ q.0 → ⊥) qs
@@ -131,7 +132,7 @@ absent_shape [] [] e = tt
 absent_shape [] (o ∷ os) e = absurd cc
 absent_shape (f ∷ fs) [] e = absurd cc
 absent_shape (f ∷ fs) (Some d ∷ os) e = absurd cc
-absent_shape (f ∷ fs) (None ∷ os) e = let x = both_true f.optional (are_absent fs os) e in (x.0, absent_shape fs os x.1)
+absent_shape (f ∷ fs) (None ∷ os) e = let x = and_parts f.optional (are_absent fs os) e in (x.0, absent_shape fs os x.1)
 
 tuple_shape : (fs : List Field) (os : List (Option Data)) (ds : List Data) → tuple_items fs os ≡ Some ds → Shape fs os
 tuple_shape [] [] ds e = tt
@@ -216,11 +217,6 @@ not_null (T.list ds) t e = subst IsNotNull (same_Some (T.list ds) t e) tt
 not_null (T.map ms) t e = subst IsNotNull (same_Some (T.map ms) t e) tt
 not_null (T.link s) t e = subst IsNotNull (same_Some (T.link s) t e) tt
 
-below_length : {A : Type 0} (xs : List A) (n : ℕ) (x : A) → slice_get xs n ≡ Some x → n < length xs
-below_length [] n x e = absurd (none-some x e)
-below_length (y ∷ ys) zero x e = omega arith
-below_length (y ∷ ys) (suc n) x e = let h = below_length ys n x e in omega (arith, h)
-
 module _ (rows : List Row) (room : ℕ) (below : ℕ → Slot → Value → Type 0) (s : Slot) (t : Data) (tree : IsTree t) where
   null_shows : is_null_there s t ≡ true → RepresentsSome (ValueFits rows room below) rows s t
   null_shows e = by t e where
@@ -291,7 +287,7 @@ module _ (rows : List Row) (room : ℕ) (below : ℕ → Slot → Value → Type
       let x = then_from (λ n. option_and_then (enum_form e.form) (slice_get e.members n)) (as_enum l) t made in
       let y = then_from (enum_form e.form) (slice_get e.members x.item) t x.made in (
         V.enum x.item,
-        subst (λ o. IsSomeAnd o (FormFits rows room below (V.enum x.item))) (sym is) (fits, below_length e.members x.item y.item y.there),
+        subst (λ o. IsSomeAnd o (FormFits rows room below (V.enum x.item))) (sym is) (fits, got_below e.members x.item y.item y.there),
         ap (λ o. layered alone o (Some (L.enum x.item))) is ∙ x.made,
       )
 

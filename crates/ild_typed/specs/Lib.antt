@@ -15,7 +15,6 @@ pub mod Fits
 pub mod Typed
 pub mod Blocks
 pub mod Nested
-pub mod Among
 pub mod Stands
 pub mod Tells
 pub mod Schema

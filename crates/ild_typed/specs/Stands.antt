@@ -1,7 +1,7 @@
 -- The blocks of a value of a type, and the value that stands under an id in a store (IPLD HashMap; DAG-CBOR).
 use Rattle.std.specs.Prelude.{◌≡◌, ℕ, ◌≤◌, List, [], ◌∷◌, ◌++◌, length, Option, Some}
 use Rattle.std.specs.List.{AllByRecursion}
-use Rattle.ild_typed.specs.Among.{AreUnderIds}
+use Rattle.ild_data.specs.Among.{AreUnderIds}
 use Rattle.ild_data.specs.Data.{Data}
 use Rattle.ild_data.specs.Limits.{deepest, longest_block}
 use Rattle.ild_data.specs.Spell.{spell, id_of}

@@ -4,6 +4,7 @@ use Rattle.std.specs.Prelude.{IsUtf8, not, Result, Ok, Err, option_and_then}
 use Rattle.std.specs.List.{AllByRecursion}
 use Rattle.std.specs.Option.{option_map_or}
 use Rattle.std.proofs.lemmas.Option.{same_Some, none-some}
+use Rattle.std.proofs.lemmas.Bool.{and_parts}
 use Rattle.ild_data.specs.Data as T
 use Rattle.ild_data.specs.Data.{Data}
 use Rattle.ild_data.proofs.Lists.{items_of-items_list, members_of-members_list}
@@ -21,7 +22,6 @@ use Rattle.ild_typed.specs.Holder.{Holder, fields, member, entries, elements, an
 use Rattle.ild_typed.specs.OfType.{OfType, TestsKeys}
 use Rattle.ild_typed.specs.Schema.{IsSchema}
 use Rattle.ild_typed.specs.Segment.{part, set_part, member_named}
-use Rattle.ild_typed.proofs.Basics.{both_true}
 use Rattle.ild_path_edits.specs.Edit.{Edit, set_at, ins_at, del_at, HasTextPath, path_of, new_slot, placed, set_in, ins_in, unless_kept, del_in, change}
 use Rattle.ild_path_edits.specs.EditLaws.{Brings}
 use Rattle.ild_path_edits.specs.Table.{slot_to_set, slot_to_insert, key_fits, MayStand, insert_part, delete_part, refusal_to_delete}
@@ -147,10 +147,10 @@ module _ (h : List ℕ → List ℕ) (rows : List Row) (is_key : ℕ → List �
 
   -- the first holder of a path in one block is no HAMT, and the rest is a path in one block of the part
   pub first_plain : (p : InSlot) (s : List ℕ) (ss : List (List ℕ)) → in_one_block rows p (s ∷ ss) ≡ true → is_root rows p ≡ false
-  first_plain p s ss e = not_true (is_root rows p) (both_true (not (is_root rows p)) _ e).0
+  first_plain p s ss e = not_true (is_root rows p) (and_parts (not (is_root rows p)) _ e).0
 
   pub rest_plain : (p q : InSlot) (s : List ℕ) (ss : List (List ℕ)) → in_one_block rows p (s ∷ ss) ≡ true → part (seen rows p) s ≡ Some q → in_one_block rows q ss ≡ true
-  rest_plain p q s ss e there = sym (ap (λ o. option_map_or (λ q. in_one_block rows q ss) o true) there) ∙ (both_true (not (is_root rows p)) _ e).1
+  rest_plain p q s ss e there = sym (ap (λ o. option_map_or (λ q. in_one_block rows q ss) o true) there) ∙ (and_parts (not (is_root rows p)) _ e).1
 
   -- the front of the value that a changed holder is
   front_back : (slot : Slot) (k : Holder) → holder_of rows slot (value_of k) ≡ k → Of slot (value_of k) → is_root rows (slot, value_of k) ≡ false → value_of (front_of h rows k) ≡ F slot (value_of k)

@@ -1,13 +1,12 @@
 -- The blocks of the places beneath the node of entries are those of the nodes beneath it, and those in the values of its entries.
 use Rattle.std.proofs.Common.{ℕ, zero, suc, ◌+◌, ◌^◌, ◌==◌, nat_le, Bool, true, false, List, [], ◌∷◌, ◌++◌, length, flat_map, Option, Some, None, arith}
 use Rattle.std.specs.List.{AllByRecursion, range_with_len}
+use Rattle.ild_data.proofs.AllOf.{all_append, all_split, all_filter}
 use Rattle.ild_data.specs.Data.{Data}
 use Rattle.ild_data.specs.Trie.{part, node_of, at_depth}
 use Rattle.ild_data.specs.TrieBlocks.{block_of, node_and_beneath, nodes_beneath, none_or}
 use Rattle.ild_data.specs.declared.hamt_shape.HamtShape.{HamtShape}
 use Rattle.ild_hamt_trie.proofs.Index.{index_below}
-use Rattle.ild_typed.proofs.Treed.{all_append}
-use Rattle.ild_typed.proofs.TreeNodes.{all_split, part_in}
 use Rattle.ild_typed_places.specs.Places.{Places, blocks_in, node_place, bucket_or_node, places_beneath}
 use Rattle.ild_typed_places.proofs.Joining.{All, over_each, each_over}
 use Rattle.ild_typed_places.proofs.Listing.{all_over, in_range}
@@ -44,7 +43,7 @@ module _ (P : List ℕ → Type 0) (inner : List ℕ → Places) where
     each_to most at es inside f [] on = tt
     each_to most at es inside f (j ∷ js) on =
         let parts = all_split P (node_and_beneath most below bs (part at es j)) (flat_map (λ i. node_and_beneath most below bs (part at es i)) js) on in
-        let mine : Inside (part at es j) = part_in (λ e. All P (inner e.0)) (λ e. at e.0 == j) es inside in
+        let mine : Inside (part at es j) = all_filter (λ e. All P (inner e.0)) (λ e. at e.0 == j) es inside in
         (one_to (part at es j) (nat_le (length (part at es j)) most) (f (part at es j) mine) mine parts.0, each_to most at es inside f js parts.1)
 
     to_each : (most : ℕ) (at : List ℕ → ℕ) (es : List (List ℕ × Data)) → ((fs : List (List ℕ × Data)) → All P (ps fs) → On (bs fs) × Inside fs)

@@ -4,6 +4,7 @@ use Rattle.std.specs.Prelude.{is_some, Contains}
 use Rattle.std.specs.List.{AllByRecursion, filter, range_with_len}
 use Rattle.std.specs.Option.{option_map_or}
 use Rattle.std.proofs.lemmas.Bool.{lt-leb}
+use Rattle.ild_data.proofs.AllOf.{all_append, all_filter, contains_more}
 use Rattle.ild_data.specs.ByteOrder.{in_byte_order}
 use Rattle.ild_data.specs.Data.{Data}
 use Rattle.ild_data.specs.Key.{same_text}
@@ -25,12 +26,10 @@ use Rattle.ild_hamt_trie.proofs.Slots.{all_some-cons}
 use Rattle.ild_typed.specs.Hamt.{whole}
 use Rattle.ild_typed.specs.Represented.{represented_pairs}
 use Rattle.ild_typed.specs.Slots.{element_of, fields_of, member_of}
-use Rattle.ild_typed.proofs.Treed.{all_append}
-use Rattle.ild_typed.proofs.TreeNodes.{part_in}
 use Rattle.ild_typed.proofs.TrieTells.{SlotWay, nothing, few, many, slot_way}
 use Rattle.ild_typed_places.specs.Places.{Places, nowhere, place, Place, joined, places_over, tops, each_place, node_place, bucket_or_node, places_beneath, at_key, map_places, places_in, places_in_values, places_in_pairs, places_in_fields}
 use Rattle.ild_typed_places.specs.Links.{LinksTo, IsNodePlace, PlacesAreOfNodes}
-use Rattle.ild_typed_places.proofs.Listing.{all_from, contains_more}
+use Rattle.ild_typed_places.proofs.Listing.{all_from}
 
 -- ---- blocks at the top
 
@@ -135,7 +134,7 @@ module _ (h : List ℕ → List ℕ) (rows : List Row) where
   flat ts all = over_nodes (λ t. t.1) ts all
 
   at_each : (ts : List (List ℕ × Places)) → Each ts → (k : List ℕ) → AllNodes (at_key ts k)
-  at_each ts all k = over_nodes (λ t. t.1) (filter (λ t. same_text k t.0) ts) (part_in (λ t. AllNodes t.1) (λ t. same_text k t.0) ts all)
+  at_each ts all k = over_nodes (λ t. t.1) (filter (λ t. same_text k t.0) ts) (all_filter (λ t. AllNodes t.1) (λ t. same_text k t.0) ts all)
 
   hamt : (p : HamtShape) (b : Bool) (es : List (List ℕ × Data)) (ts : List (List ℕ × Places)) → Each ts
       → AllNodes (cond b (places_beneath (at_key ts) h p (trie_levels p) 0 (in_byte_order es)) (places_over (λ t. t.1) ts))

@@ -1,5 +1,5 @@
 -- Entries in bytewise order are the entries, where no key stands twice; and so are those of all parts of a node.
-use Rattle.std.proofs.Common.{◌≡◌, ℕ, ◌<◌, ◌==◌, Bool, true, false, cond, not, is_some, List, [], ◌∷◌, Option, Some, None, refl, sym, ◌∙◌, subst}
+use Rattle.std.proofs.Common.{◌≡◌, ℕ, ◌<◌, ◌==◌, Bool, true, false, cond, not, is_some, List, [], ◌∷◌, Some, None, refl, sym, ◌∙◌, subst}
 use Rattle.std.specs.List.{AllByRecursion}
 use Rattle.std.specs.FinMap.{find, put}
 use Rattle.std.specs.Ordering.{is_eq, match_ordering}
@@ -7,14 +7,11 @@ use Rattle.std.specs.declared.cmp.Ordering.{Ordering}
 use Rattle.std.specs.declared.cmp.Ordering.TheVariants.{Less, Equal, Greater}
 use Rattle.std.proofs.lemmas.Bool.{and_parts, eq-eqb}
 use Rattle.std.proofs.lemmas.Option.{none-some}
+use Rattle.ild_hamt_trie.proofs.Pairs.{none_from}
 use Rattle.ild_data.specs.ByteOrder.{bytewise, in_byte_order, no_key_twice}
 use Rattle.ild_data.specs.Data.{Data}
 use Rattle.ild_data.specs.Trie.{part}
 use Rattle.ild_hamt_trie.proofs.Parts.{find-sorted}
-
-none_from : (o : Option Data) → not (is_some o) ≡ true → o ≡ None
-none_from None e = refl
-none_from (Some x) e = absurd cc
 
 first_none : (e : List ℕ × Data) (es : List (List ℕ × Data)) → not (is_some (find bytewise e.0 es)) ≡ true → find bytewise e.0 (in_byte_order es) ≡ None
 first_none e es one = find-sorted e.0 es ∙ none_from (find bytewise e.0 es) one

@@ -5,6 +5,7 @@ use Rattle.std.specs.List.{AllByRecursion, filter, range_with_len}
 use Rattle.std.specs.Option.{option_map_or}
 use Rattle.std.specs.Cmp.Lexicographic.{nat_list_eq_equiv}
 use Rattle.std.proofs.lemmas.Option.{none-some, same_Some}
+use Rattle.ild_data.proofs.AllOf.{all_split, all_contained}
 use Rattle.ild_data.specs.ByteOrder.{in_byte_order}
 use Rattle.ild_data.specs.Data.{Data}
 use Rattle.ild_data.specs.Key.{same_text}
@@ -23,11 +24,10 @@ use Rattle.ild_hamt_trie.proofs.Index.{index_below}
 use Rattle.ild_typed.specs.Hamt.{whole}
 use Rattle.ild_typed.specs.Represented.{represented_pairs}
 use Rattle.ild_typed.proofs.Rooms.{all_more}
-use Rattle.ild_typed.proofs.TreeNodes.{all_split}
 use Rattle.ild_typed_places.specs.Places.{Places, nowhere, Place, joined, places_over, each_place, node_place, bucket_or_node, places_beneath, at_key, map_places, places_in, places_in_values, places_in_pairs}
 use Rattle.ild_typed_places.specs.Parts.{LieIn, PlacesOfElements, PlacesOfEntries, PlacesOfMembers}
 use Rattle.ild_typed_places.proofs.Linked.{each_joined}
-use Rattle.ild_typed_places.proofs.Listing.{all_contained, all_mapped, all_one, in_range, mapped_all}
+use Rattle.ild_typed_places.proofs.Listing.{all_mapped, all_one, in_range, mapped_all}
 use Rattle.ild_typed_places.proofs.Ordered.{from_order, from_parts}
 use Rattle.ild_typed_places.proofs.Values.{keys_are, one_each}
 

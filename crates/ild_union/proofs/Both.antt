@@ -2,17 +2,17 @@
 use Rattle.std.proofs.Common.{◌≡◌, ℕ, Bool, true, false, cond, not, ◌||◌, ◌&&◌, List, [], ◌∷◌, Some, None, refl, sym, ◌∙◌, ap, subst, inl, inr}
 use Rattle.std.specs.Prelude.{is_none}
 use Rattle.std.specs.Cmp.Lexicographic.{same_text as text_same}
-use Rattle.std.specs.declared.cmp.Ordering.TheVariants.{Less, Equal}
 use Rattle.std.specs.Borrow.{Bor}
+use Rattle.std.proofs.lemmas.Bool.{and_parts}
+use Rattle.ild_typed.proofs.Rising.{not_itself}
 use Rattle.ild_data.specs.Data.{Data}
-use Rattle.ild_data.specs.Key.{key_cmp, same_text, Rises}
-use Rattle.ild_data.proofs.Rising.{key_cmp_total, key_equal}
+use Rattle.ild_data.specs.Key.{same_text, Rises}
+use Rattle.ild_data.proofs.Rising.{key_cmp_total}
 use Rattle.ild_cbor.specs.declared.node.Node.{Node}
 use Rattle.ild_cbor.specs.Nodes.{HasData}
 use Rattle.ild_layer_piece.specs.declared.walk.MapEntries.{MapEntries}
 use Rattle.ild_layer_piece.specs.Entries.{EntriesGive, HasLeft}
 use Rattle.ild_layer_piece.proofs.Walking.{first_left, none_left}
-use Rattle.ild_typed.proofs.Basics.{both_true}
 use Rattle.ild_union.specs.inside.Envelope.{AreBoth, is_one, has_stranger, lacks_one}
 
 -- ---- tests that exclude one another
@@ -30,9 +30,6 @@ not_two key k l apart = by (same_text key k) (same_text key l) refl refl where
   by true true p q = absurd (apart (sym (text_same key k p) ∙ text_same key l q))
   by true false p q = refl
   by false y p q = refl
-
-apart_less : (k l : List ℕ) → key_cmp k l ≡ Less → k ≡ l → ⊥
-apart_less k l less same = let h : Equal ≡ Less = sym (key_equal k) ∙ ap (key_cmp k) same ∙ less in absurd cc
 
 -- three are never of two
 three : (a b c d e f r : Bool) → (a && c) ≡ false → (a && e) ≡ false → (c && e) ≡ false → (b && d) ≡ false → (b && f) ≡ false → (d && f) ≡ false
@@ -81,9 +78,9 @@ module _ (key content : List ℕ) where
   pub three_there : (es rest : List (List ℕ × Data)) (k l m : List ℕ) (d e f : Data) → Rises es → es ≡ (k, d) ∷ (l, e) ∷ (m, f) ∷ rest → has_stranger key content es ≡ true
   three_there es rest k l m d e f up is =
       let h : Rises ((k, d) ∷ (l, e) ∷ (m, f) ∷ rest) = subst Rises is up in
-      let kl : k ≡ l → ⊥ = apart_less k l h.0 in
-      let lm : l ≡ m → ⊥ = apart_less l m h.1.0 in
-      let km : k ≡ m → ⊥ = apart_less k m (key_cmp_total.trans k l m h.0 h.1.0) in
+      let kl : k ≡ l → ⊥ = not_itself k l h.0 in
+      let lm : l ≡ m → ⊥ = not_itself l m h.1.0 in
+      let km : k ≡ m → ⊥ = not_itself k m (key_cmp_total.trans k l m h.0 h.1.0) in
       ap (has_stranger key content) is
       ∙ three (same_text key k) (same_text content k) (same_text key l) (same_text content l) (same_text key m) (same_text content m) (has_stranger key content rest)
       (not_two key k l kl) (not_two key k m km) (not_two key l m lm) (not_two content k l kl) (not_two content k m km) (not_two content l m lm)
@@ -92,17 +89,17 @@ module _ (key content : List ℕ) where
       → has_stranger key content es ≡ true
   two_there es k l d e up is one other =
       let h : Rises ((k, d) ∷ (l, e) ∷ []) = subst Rises is up in
-      let kl : k ≡ l → ⊥ = apart_less k l h.0 in
+      let kl : k ≡ l → ⊥ = not_itself k l h.0 in
       ap (has_stranger key content) is ∙ two (same_text key k) (same_text content k) (same_text key l) (same_text content l) (not_two key k l kl) (not_two content k l kl) one other
 
   pub first_order : (es : List (List ℕ × Data)) (k l : List ℕ) (d e : Data) → es ≡ (k, d) ∷ (l, e) ∷ [] → (same_text key k && same_text content l) ≡ true → AreBoth key content d e es
   first_order es k l d e is both =
-      let x = both_true (same_text key k) (same_text content l) both in
+      let x = and_parts (same_text key k) (same_text content l) both in
       inl (is ∙ ap (λ a. (a, d) ∷ (l, e) ∷ []) (sym (text_same key k (sym x.0))) ∙ ap (λ a. (key, d) ∷ (a, e) ∷ []) (sym (text_same content l (sym x.1))))
 
   pub other_order : (es : List (List ℕ × Data)) (k l : List ℕ) (d e : Data) → es ≡ (k, d) ∷ (l, e) ∷ [] → (same_text content k && same_text key l) ≡ true → AreBoth key content e d es
   other_order es k l d e is both =
-      let x = both_true (same_text content k) (same_text key l) both in
+      let x = and_parts (same_text content k) (same_text key l) both in
       inr (is ∙ ap (λ a. (a, d) ∷ (l, e) ∷ []) (sym (text_same content k (sym x.0))) ∙ ap (λ a. (content, d) ∷ (a, e) ∷ []) (sym (text_same key l (sym x.1))))
 
 -- ---- the first two entries

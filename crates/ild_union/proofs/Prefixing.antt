@@ -2,7 +2,7 @@
 use Rattle.std.proofs.Common.{◌≡◌, ℕ, Bool, true, false, not, List, [], ◌∷◌, ◌++◌, Option, Some, None, refl, sym, ◌∙◌, ap}
 use Rattle.std.specs.Prelude.{nat_eq}
 use Rattle.std.specs.List.{list_any}
-use Rattle.std.proofs.lemmas.Bool.{eqb-true}
+use Rattle.std.proofs.lemmas.Bool.{eqb-true, and_parts}
 use Rattle.ild_data.specs.Data as T
 use Rattle.ild_data.specs.Data.{Data}
 use Rattle.ild_schema.specs.declared.def.Mark.{Mark}
@@ -22,7 +22,6 @@ use Rattle.ild_typed.specs.Named.{where_some}
 use Rattle.ild_typed.specs.Strings.{text_in, bytes_in}
 use Rattle.ild_typed.specs.UnionWhy.{union_name, union_missing, union_count, union_prefix}
 use Rattle.ild_typed.specs.Why as W
-use Rattle.ild_typed.proofs.Basics.{both_true}
 use Rattle.ild_typed.proofs.Cleans.{found}
 use Rattle.ild_typed.proofs.Entries.{only_text_data, only_bytes_data}
 use Rattle.ild_union.proofs.Order.{prefix_why}
@@ -36,7 +35,7 @@ begun : (p s : List ℕ) → begins p s ≡ true → Begun p s
 begun [] s e = record { rest = s; is = refl }
 begun (c ∷ p) [] e = absurd cc
 begun (c ∷ p) (d ∷ s) e =
-    let x = both_true (nat_eq c d) (begins p s) e in
+    let x = and_parts (nat_eq c d) (begins p s) e in
     let rest = begun p s x.1 in
     let first : c ≡ d = eqb-true c d x.0 in
     record { rest = rest.rest; is = λ i. sym first i ∷ rest.is i }

@@ -3,7 +3,7 @@ use Rattle.std.proofs.Common.{cond, ◌≡◌, ℕ, ◌≤◌, List, [], ◌∷�
 use Rattle.std.specs.Prelude.{option_map}
 use Rattle.std.proofs.lemmas.Option.{same_Some, none-some}
 use Rattle.ild_data.specs.Data.{Data, depth, Members, no_members, member, members_list, members_depth}
-use Rattle.ild_data.specs.Key.{same_text, value_at, Rises, IsBelow}
+use Rattle.ild_data.specs.Key.{same_text, value_at, IsBelow}
 use Rattle.ild_data.specs.Seen.{data_of, pair_of}
 use Rattle.ild_data.specs.declared.tree.Tree.{Tree}
 use Rattle.ild_value.specs.inside.Parts.{only_member}
@@ -11,10 +11,6 @@ use Rattle.ild_value.specs.inside.Parts.{only_member}
 below_seen : (k : List ℕ) (ps : List (List ℕ × Tree)) → IsBelow k (map pair_of ps) → IsBelow k ps
 below_seen k [] h = tt
 below_seen k (p ∷ ps) h = h
-
-pub rises_seen : (ps : List (List ℕ × Tree)) → Rises (map pair_of ps) → Rises ps
-rises_seen [] h = tt
-rises_seen (p ∷ ps) h = (below_seen p.0 ps h.0, rises_seen ps h.1)
 
 value_by : (b : Bool) (t : Tree) (o : Option Tree) (q : Option Data) → q ≡ option_map data_of o → cond b (Some (data_of t)) q ≡ option_map data_of (cond b (Some t) o)
 value_by true t o q h = refl

@@ -4,6 +4,8 @@ use Rattle.std.specs.Prelude.{ℤ, ◌&&◌, is_none, map as list_map, option_ma
 use Rattle.std.specs.List.{list_any}
 use Rattle.std.specs.Cmp.Lexicographic.{same_text as text_same}
 use Rattle.std.proofs.lemmas.Option.{same_Some, none-some}
+use Rattle.std.proofs.lemmas.Bool.{and_parts}
+use Rattle.ild_data.proofs.Options.{none_is}
 use Rattle.ild_data.specs.Data as D
 use Rattle.ild_data.specs.Data.{Data, Items, no_items, item, items_list, Members, no_members, member, members_list}
 use Rattle.ild_data.specs.Key.{same_text, value_at, Rises}
@@ -27,14 +29,6 @@ use Rattle.ild_value_meaning.proofs.MeantTyped.{tree_at}
 pub not_false : (b : Bool) → not b ≡ true → b ≡ false
 not_false true h = absurd cc
 not_false false h = refl
-
-pub none_is : {X : Type 0} (o : Option X) → is_none o ≡ true → o ≡ None
-none_is None h = refl
-none_is (Some x) h = absurd cc
-
-pub both_of : (a b : Bool) → (a && b) ≡ true → (a ≡ true) × (b ≡ true)
-both_of true b h = (refl, h)
-both_of false b h = absurd cc
 
 -- what is made of two parts, where one is none
 others_none : (o : Option Value) → and_others o None ≡ None
@@ -130,8 +124,8 @@ module _ (rows : List Row) (is_key : ℕ → List ℕ → Bool) where
 
   field_missing : (f : Field) (ms : Members) → lacks ms f ≡ true → field_of f (value_at f.name (R ms)) ≡ None
   field_missing f ms h =
-      let a = both_of (not f.optional && is_none f.implicit) (is_none (value_at f.name (members_list ms))) h in
-      let b = both_of (not f.optional) (is_none f.implicit) a.0 in
+      let a = and_parts (not f.optional && is_none f.implicit) (is_none (value_at f.name (members_list ms))) h in
+      let b = and_parts (not f.optional) (is_none f.implicit) a.0 in
       let gone : value_at f.name (R ms) ≡ None = reading_at rows is_key ms f.name ∙ ap (option_map (λ d slot. M slot d)) (none_is (value_at f.name (members_list ms)) a.1) in
       ap (field_of f) gone ∙ ap (λ o. or_implicit o f.optional) (none_is f.implicit b.1) ∙ ap (or_implicit None) (not_false f.optional b.0)
 

@@ -1,6 +1,6 @@
 -- What data show is whole: no root of a HAMT stands in it for its entries.
 use Rattle.std.proofs.Common.{◌≡◌, ◌⊎◌, inl, inr, ℕ, List, [], ◌∷◌, Bool, true, Some, refl, sym, subst}
-use Rattle.std.specs.Prelude.{◌&&◌}
+use Rattle.std.proofs.lemmas.Bool.{and_from}
 use Rattle.ild_data.specs.Data.{Data, Items, Members, members_list}
 use Rattle.ild_data.specs.Key.{value_at}
 use Rattle.ild_schema.specs.declared.def.Scalar.{Scalar}
@@ -15,9 +15,6 @@ use Rattle.ild_value_meaning.specs.Meant.{Meant, AreMeant, EntriesMeant, FieldsM
 
 abbrev W : Value → Type 0
 W v = is_whole v ≡ true
-
-and_of : (a b : Bool) → a ≡ true → b ≡ true → (a && b) ≡ true
-and_of a b p q = λ i. p i && q i
 
 scalar_whole : (s : Scalar) → W (of_scalar s)
 scalar_whole (S.Bool b) = refl
@@ -49,15 +46,15 @@ module _ (rows : List Row) (is_key : ℕ → List ℕ → Bool) where
 
     items_whole : (vs : Values) (slot : Slot) (ds : Items) → AreMeant rows is_key slot ds vs → are_whole vs ≡ true
     items_whole no_values slot ds h = refl
-    items_whole (value v vs) slot ds h = and_of (is_whole v) (are_whole vs) (meant_whole v slot h.0 h.3) (items_whole vs slot h.1 h.4)
+    items_whole (value v vs) slot ds h = and_from (is_whole v) (are_whole vs) (meant_whole v slot h.0 h.3) (items_whole vs slot h.1 h.4)
 
     entries_whole : (ps : Pairs) (key : ℕ) (slot : Slot) (ms : Members) → EntriesMeant rows is_key key slot ms ps → pairs_whole ps ≡ true
     entries_whole no_pairs key slot ms h = refl
-    entries_whole (pair k v ps) key slot ms h = and_of (is_whole v) (pairs_whole ps) (meant_whole v slot h.0 h.4) (entries_whole ps key slot h.1 h.5)
+    entries_whole (pair k v ps) key slot ms h = and_from (is_whole v) (pairs_whole ps) (meant_whole v slot h.0 h.4) (entries_whole ps key slot h.1 h.5)
 
     shown_fields : (os : Optionals) (fs : List Field) (ms : Members) → FieldsMeant rows is_key fs ms os → fields_whole os ≡ true
     shown_fields no_optionals fs ms h = refl
     shown_fields (absent os) [] ms h = absurd h
     shown_fields (absent os) (f ∷ fs) ms h = shown_fields os fs ms h.1
     shown_fields (present v os) [] ms h = absurd h
-    shown_fields (present v os) (f ∷ fs) ms h = and_of (is_whole v) (fields_whole os) (shown_or_left f v ms h.0 (λ e m. meant_whole v f.slot e m)) (shown_fields os fs ms h.1)
+    shown_fields (present v os) (f ∷ fs) ms h = and_from (is_whole v) (fields_whole os) (shown_or_left f v ms h.0 (λ e m. meant_whole v f.slot e m)) (shown_fields os fs ms h.1)

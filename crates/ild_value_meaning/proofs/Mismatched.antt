@@ -1,9 +1,11 @@
 -- Where data mean nothing, some part of them breaks some rule.
-use Rattle.std.proofs.Common.{cond, ◌≡◌, ◌⊎◌, inl, inr, ℕ, suc, List, [], ◌∷◌, slice_get, Bool, true, false, ◌||◌, not, Option, Some, None, refl, ap, sym, subst, ◌∙◌}
+use Rattle.std.proofs.Common.{cond, ◌≡◌, ◌⊎◌, inl, inr, ℕ, suc, List, [], ◌∷◌, slice_get, Bool, true, false, not, Option, Some, None, refl, ap, sym, subst, ◌∙◌}
 use Rattle.std.specs.Prelude.{ℤ, ◌&&◌, is_none, map as list_map, option_map, option_and_then}
 use Rattle.std.specs.List.{list_any}
 use Rattle.std.specs.Cmp.Lexicographic.{same_text as text_same}
 use Rattle.std.proofs.lemmas.Option.{same_Some, none-some}
+use Rattle.std.proofs.lemmas.Bool.{or_left, or_right}
+use Rattle.ild_data.proofs.Options.{map_none}
 use Rattle.ild_data.specs.Data as D
 use Rattle.ild_data.specs.Data.{Data, Items, no_items, item, items_list, Members, no_members, member, members_list}
 use Rattle.ild_data.specs.Key.{same_text, value_at}
@@ -29,35 +31,23 @@ use Rattle.ild_value_meaning.proofs.Told.{AreProper, HasProperFields, told}
 
 -- ---- where what is made of parts is none, a part is
 
-mapped : {X Y : Type 0} (f : X → Y) (o : Option X) → option_map f o ≡ None → o ≡ None
-mapped f None h = refl
-mapped f (Some x) h = absurd (none-some (f x) (sym h))
-
 others : (o : Option Value) (p : Option Values) → and_others o p ≡ None → (o ≡ None) ⊎ (p ≡ None)
 others None p h = inl refl
-others (Some v) p h = inr (mapped (λ vs. value v vs) p h)
+others (Some v) p h = inr (map_none (λ vs. value v vs) p h)
 
 pairs : (b : Bool) (k : List ℕ) (o : Option Value) (p : Option Pairs) → and_pairs b k o p ≡ None → (b ≡ false) ⊎ ((o ≡ None) ⊎ (p ≡ None))
 pairs true k None p h = inr (inl refl)
-pairs true k (Some v) p h = inr (inr (mapped (λ ps. pair k v ps) p h))
+pairs true k (Some v) p h = inr (inr (map_none (λ ps. pair k v ps) p h))
 pairs false k o p h = inl refl
 
 both_fields : (o : Option (Option Value)) (p : Option Optionals) → and_fields o p ≡ None → (o ≡ None) ⊎ (p ≡ None)
 both_fields None p h = inl refl
-both_fields (Some v) p h = inr (mapped (λ os. optional v os) p h)
+both_fields (Some v) p h = inr (map_none (λ os. optional v os) p h)
 
 left_fields : (i : Option Scalar) (b : Bool) → or_implicit i b ≡ None → (not b && is_none i) ≡ true
 left_fields (Some s) b h = absurd (none-some _ (sym h))
 left_fields None true h = absurd (none-some _ (sym h))
 left_fields None false h = refl
-
-or_left : (a b : Bool) → a ≡ true → (a || b) ≡ true
-or_left true b h = refl
-or_left false b h = absurd cc
-
-or_right : (a b : Bool) → b ≡ true → (a || b) ≡ true
-or_right true b h = refl
-or_right false b h = h
 
 -- ---- kinds
 
@@ -185,7 +175,7 @@ module _ (rows : List Row) (is_key : ℕ → List ℕ → Bool) (proper : HasPro
 
   list_mis : (slot : Slot) (ds : Items) (f : Option TypeDef) → form_of rows slot ≡ f → ItemsTold ds → list_by (D.list ds) (λ elem. meant_items rows is_key elem ds) f ≡ None → Mis slot (D.list ds)
   list_mis slot ds (Some (T.List elem place)) e all h =
-      let x = items_fail ds elem all (mapped (λ vs. list vs) (meant_items rows is_key elem ds) h) in
+      let x = items_fail ds elem all (map_none (λ vs. list vs) (meant_items rows is_key elem ds) h) in
       beneath slot (D.list ds) x.0 x.1 (ap (λ g. slice_get (list_parts g ds) x.0) e ∙ x.2) x.3
   list_mis slot ds (Some T.Any) e all h = absurd (none-some _ (sym h))
   list_mis slot ds f e all h = here slot (D.list ds) Kind (ap (λ g. not (shows_list g)) e)
@@ -218,7 +208,7 @@ module _ (rows : List Row) (is_key : ℕ → List ℕ → Bool) (proper : HasPro
       and_true false h = h
   field_fails all fs f ms (Some d) e told named h =
       let i = found_at (λ k. slot_named k all) f.name f.slot ms d named e in
-      inr (i.0, (f.slot, d), i.1, told_at f.name ms d told e f.slot (mapped (λ v. Some v) (M f.slot d) h))
+      inr (i.0, (f.slot, d), i.1, told_at f.name ms d told e f.slot (map_none (λ v. Some v) (M f.slot d) h))
 
   fields_fail : (all fs : List Field) (ms : Members) → AllTold ms → AreFirst all fs → fields_by fs (R ms) ≡ None → (list_any (lacks ms) fs ≡ true) ⊎ PartFails (parts_named (λ k. slot_named k all) ms)
   fields_fail all [] ms told first h = absurd (none-some _ (sym h))
@@ -247,7 +237,7 @@ module _ (rows : List Row) (is_key : ℕ → List ℕ → Bool) (proper : HasPro
           → (not (not (is_none (member_named k members))) ≡ true) ⊎ PartFails (with_part (option_map (λ (p : ℕ × Member). plainly (p.1).ty) (member_named k members)) d [])
       by None e g = inl (ap (λ o. not (not (is_none o))) e)
       by (Some m) e g =
-          inr (0, (plainly (m.1).ty, d), ap (λ o. slice_get (with_part (option_map (λ (p : ℕ × Member). plainly (p.1).ty) o) d []) 0) e, all.0 (plainly (m.1).ty) (mapped (λ v. union m.0 v) (M (plainly (m.1).ty) d) g))
+          inr (0, (plainly (m.1).ty, d), ap (λ o. slice_get (with_part (option_map (λ (p : ℕ × Member). plainly (p.1).ty) o) d []) 0) e, all.0 (plainly (m.1).ty) (map_none (λ v. union m.0 v) (M (plainly (m.1).ty) d) g))
   union_fails members (member k d (member l e ms)) all h = inl refl
 
   either_way : (slot : Slot) (ms : Members) (rule : Rule) (f : Option TypeDef) (b : Bool) → form_of rows slot ≡ f → breaks rows is_key slot (D.map ms) rule ≡ b → (b ≡ true) ⊎ PartFails (map_parts f ms) → Mis slot (D.map ms)
@@ -255,13 +245,13 @@ module _ (rows : List Row) (is_key : ℕ → List ℕ → Bool) (proper : HasPro
   either_way slot ms rule f b e same (inr x) = beneath slot (D.map ms) x.0 x.1 (ap (λ g. slice_get (map_parts g ms) x.0) e ∙ x.2) x.3
 
   struct_mis : (slot : Slot) (s : List Field) (ms : Members) (b : Bool) → are_named s ms ≡ b → if_named b (fields_by s (R ms)) ≡ None → (not b ≡ true) ⊎ (fields_by s (R ms) ≡ None)
-  struct_mis slot s ms true e h = inr (mapped (λ os. struct os) (fields_by s (R ms)) h)
+  struct_mis slot s ms true e h = inr (map_none (λ os. struct os) (fields_by s (R ms)) h)
   struct_mis slot s ms false e h = inl refl
 
   map_mis : (slot : Slot) (ms : Members) (f : Option TypeDef) → form_of rows slot ≡ f → AllTold ms → map_by is_key ms (R ms) f ≡ None → Mis slot (D.map ms)
   map_mis slot ms (Some (T.Map key key_at elem place form)) e all h =
       either_way slot ms Key (Some (T.Map key key_at elem place form)) (list_any (λ (m : List ℕ × Data). not (is_key key.0 m.0)) (members_list ms)) e (ap (λ g. breaks_key is_key g (D.map ms)) e)
-      (entries_fail key.0 elem ms all (mapped (λ ps. map ps) (pairs_by (is_key key.0) elem (R ms)) h))
+      (entries_fail key.0 elem ms all (map_none (λ ps. map ps) (pairs_by (is_key key.0) elem (R ms)) h))
   map_mis slot ms (Some (T.Struct s)) e all h = by (struct_mis slot s.fields ms (are_named s.fields ms) refl h)
     where
       by : (not (are_named s.fields ms) ≡ true) ⊎ (fields_by s.fields (R ms) ≡ None) → Mis slot (D.map ms)
@@ -278,7 +268,7 @@ module _ (rows : List Row) (is_key : ℕ → List ℕ → Bool) (proper : HasPro
   text_mis : (slot : Slot) (s : List ℕ) (f : Option TypeDef) → form_of rows slot ≡ f → text_by s f ≡ None → Mis slot (D.text s)
   text_mis slot s (Some T.Text) e h = absurd (none-some _ (sym h))
   text_mis slot s (Some (T.Enum en)) e h =
-      here slot (D.text s) MemberRule (ap (λ g. breaks_member g (D.text s)) e ∙ ap is_none (mapped (λ n. enum n) (enum_named s en.members) h))
+      here slot (D.text s) MemberRule (ap (λ g. breaks_member g (D.text s)) e ∙ ap is_none (map_none (λ n. enum n) (enum_named s en.members) h))
   text_mis slot s (Some T.Any) e h = absurd (none-some _ (sym h))
   text_mis slot s f e h = here slot (D.text s) Kind (ap (λ g. not (shows_text g)) e)
 

@@ -1,8 +1,9 @@
 -- What the reading finds is shown by the data.
 use Rattle.std.proofs.Common.{cond, ◌≡◌, inl, inr, ℕ, suc, List, [], ◌∷◌, slice_get, Bool, true, false, Option, Some, None, refl, ap, sym, subst, ◌∙◌}
-use Rattle.std.specs.Prelude.{ℤ, option_map, option_and_then}
+use Rattle.std.specs.Prelude.{ℤ, option_map}
 use Rattle.std.specs.Cmp.Lexicographic.{same_text as text_same}
 use Rattle.std.proofs.lemmas.Option.{same_Some, none-some}
+use Rattle.ild_data.proofs.Options.{chain_some, map_some}
 use Rattle.ild_data.specs.Data as D
 use Rattle.ild_data.specs.Data.{Data, Items, no_items, item, Members, no_members, member, members_list}
 use Rattle.ild_data.specs.Key.{same_text, value_at}
@@ -23,14 +24,6 @@ use Rattle.ild_value_meaning.specs.MeantRead.{meant, meant_items, readings, Read
 use Rattle.ild_value_meaning.specs.MeantLaws.{ReadIsMeant}
 use Rattle.ild_value_meaning.specs.Names.{enum_named}
 use Rattle.ild_value_meaning.proofs.Members.{member-named}
-
-mapped : {X Y : Type 0} (f : X → Y) (o : Option X) (y : Y) → option_map f o ≡ Some y → (x : X) × (o ≡ Some x) × (f x ≡ y)
-mapped f None y h = absurd (none-some y h)
-mapped f (Some x) y h = (x, refl, same_Some (f x) y h)
-
-chained : {X Y : Type 0} (f : X → Option Y) (o : Option X) (y : Y) → option_and_then f o ≡ Some y → (x : X) × (o ≡ Some x) × (f x ≡ Some y)
-chained f None y h = absurd (none-some y h)
-chained f (Some x) y h = (x, refl, h)
 
 module _ (rows : List Row) (is_key : ℕ → List ℕ → Bool) where
   abbrev Sound : Data → Type 0
@@ -73,7 +66,7 @@ module _ (rows : List Row) (is_key : ℕ → List ℕ → Bool) where
       → ((k : ℕ) → enum_named s ms ≡ Some k → (m : EnumMember) × (slice_get ms k ≡ Some m) × (s ≡ m.name)) → (l : EnumMember) × (slice_get (m ∷ ms) n ≡ Some l) × (s ≡ l.name)
   enum_at s m ms n true e h rest = (m, ap (λ k. slice_get (m ∷ ms) k) (sym (same_Some 0 n h)), text_same s m.name e)
   enum_at s m ms n false e h rest =
-      let x = mapped (λ n. suc n) (enum_named s ms) n h in
+      let x = map_some (λ n. suc n) (enum_named s ms) n h in
       let r = rest x.0 x.1 in
       (r.0, ap (λ k. slice_get (m ∷ ms) k) (sym x.2) ∙ r.1, r.2)
 
@@ -84,7 +77,7 @@ module _ (rows : List Row) (is_key : ℕ → List ℕ → Bool) where
   text_sound : (slot : Slot) (s : List ℕ) (v : Value) (f : Option TypeDef) → form_of rows slot ≡ f → text_by s f ≡ Some v → Meant rows is_key slot (D.text s) v
   text_sound slot s v (Some T.Text) e h = subst (λ w. Meant rows is_key slot (D.text s) w) (same_Some (text s) v h) (e, refl)
   text_sound slot s v (Some (T.Enum en)) e h =
-      let x = mapped (λ n. enum n) (enum_named s en.members) v h in
+      let x = map_some (λ n. enum n) (enum_named s en.members) v h in
       let m = enum_found s en.members x.0 x.1 in
       subst (λ w. Meant rows is_key slot (D.text s) w) x.2 (en, m.0, e, m.1, ap D.text m.2)
   text_sound slot s v (Some T.Any) e h = subst (λ w. Meant rows is_key slot (D.text s) w) (same_Some (any (D.text s)) v h) (e, refl, refl)
@@ -94,13 +87,13 @@ module _ (rows : List Row) (is_key : ℕ → List ℕ → Bool) where
   items_sound : (slot : Slot) (ds : Items) (vs : Values) → ItemsSound ds → meant_items rows is_key slot ds ≡ Some vs → AreMeant rows is_key slot ds vs
   items_sound slot no_items vs all h = subst (λ ws. AreMeant rows is_key slot no_items ws) (same_Some no_values vs h) refl
   items_sound slot (item d ds) vs all h =
-      let x = chained (λ v. option_map (λ vs. value v vs) (meant_items rows is_key slot ds)) (meant rows is_key slot d) vs h in
-      let y = mapped (λ vs. value x.0 vs) (meant_items rows is_key slot ds) vs x.2 in
+      let x = chain_some (λ v. option_map (λ vs. value v vs) (meant_items rows is_key slot ds)) (meant rows is_key slot d) vs h in
+      let y = map_some (λ vs. value x.0 vs) (meant_items rows is_key slot ds) vs x.2 in
       subst (λ ws. AreMeant rows is_key slot (item d ds) ws) y.2 (d, ds, refl, all.0 slot x.0 x.1, items_sound slot ds y.0 all.1 y.1)
 
   list_sound : (slot : Slot) (ds : Items) (v : Value) (f : Option TypeDef) → form_of rows slot ≡ f → ItemsSound ds → list_by (D.list ds) (λ elem. meant_items rows is_key elem ds) f ≡ Some v → Meant rows is_key slot (D.list ds) v
   list_sound slot ds v (Some (T.List elem place)) e all h =
-      let x = mapped (λ vs. list vs) (meant_items rows is_key elem ds) v h in
+      let x = map_some (λ vs. list vs) (meant_items rows is_key elem ds) v h in
       subst (λ w. Meant rows is_key slot (D.list ds) w) x.2 (elem, place, ds, e, refl, items_sound elem ds x.0 all x.1)
   list_sound slot ds v (Some T.Any) e all h = subst (λ w. Meant rows is_key slot (D.list ds) w) (same_Some (any (D.list ds)) v h) (e, refl, refl)
   list_sound slot ds v f e all h = absurd (none-some v h)
@@ -110,8 +103,8 @@ module _ (rows : List Row) (is_key : ℕ → List ℕ → Bool) where
       → and_pairs b k (meant rows is_key slot d) (pairs_by (is_key key) slot (readings rows is_key ms)) ≡ Some ps
       → ((qs : Pairs) → pairs_by (is_key key) slot (readings rows is_key ms) ≡ Some qs → EntriesMeant rows is_key key slot ms qs) → EntriesMeant rows is_key key slot (member k d ms) ps
   pair_sound key slot k d ms ps true e sound h rest =
-      let x = chained (λ v. option_map (λ ps. pair k v ps) (pairs_by (is_key key) slot (readings rows is_key ms))) (meant rows is_key slot d) ps h in
-      let y = mapped (λ ps. pair k x.0 ps) (pairs_by (is_key key) slot (readings rows is_key ms)) ps x.2 in
+      let x = chain_some (λ v. option_map (λ ps. pair k v ps) (pairs_by (is_key key) slot (readings rows is_key ms))) (meant rows is_key slot d) ps h in
+      let y = map_some (λ ps. pair k x.0 ps) (pairs_by (is_key key) slot (readings rows is_key ms)) ps x.2 in
       subst (λ qs. EntriesMeant rows is_key key slot (member k d ms) qs) y.2 (d, ms, refl, e, sound slot x.0 x.1, rest y.0 y.1)
   pair_sound key slot k d ms ps false e sound h rest = absurd (none-some ps h)
 
@@ -160,25 +153,25 @@ module _ (rows : List Row) (is_key : ℕ → List ℕ → Bool) where
   field_sound f fs ms os o None e all h rest = left_sound f fs ms os o f.implicit f.optional refl refl (reading_gone f.name ms e) h rest
   field_sound f fs ms os o (Some r) e all h rest =
       let x = reading_there f.name ms r all e in
-      let y = mapped (λ v. Some v) (r f.slot) o h in
+      let y = map_some (λ v. Some v) (r f.slot) o h in
       subst (λ z. FieldsMeant rows is_key (f ∷ fs) ms (optional z os)) y.2 (inl (x.held, x.there, x.sound f.slot y.0 (sym (x.same f.slot) ∙ y.1)), rest)
 
   fields_sound : (fs : List Field) (ms : Members) (os : Optionals) → AllSound ms → fields_by fs (readings rows is_key ms) ≡ Some os → FieldsMeant rows is_key fs ms os
   fields_sound [] ms os all h = subst (λ x. FieldsMeant rows is_key [] ms x) (same_Some no_optionals os h) tt
   fields_sound (f ∷ fs) ms os all h =
-      let x = chained (λ v. option_map (λ os. optional v os) (fields_by fs (readings rows is_key ms))) (field_of f (value_at f.name (readings rows is_key ms))) os h in
-      let y = mapped (λ os. optional x.0 os) (fields_by fs (readings rows is_key ms)) os x.2 in
+      let x = chain_some (λ v. option_map (λ os. optional v os) (fields_by fs (readings rows is_key ms))) (field_of f (value_at f.name (readings rows is_key ms))) os h in
+      let y = map_some (λ os. optional x.0 os) (fields_by fs (readings rows is_key ms)) os x.2 in
       subst (λ z. FieldsMeant rows is_key (f ∷ fs) ms z) y.2 (field_sound f fs ms y.0 x.0 (value_at f.name (readings rows is_key ms)) refl all x.1 (fields_sound fs ms y.0 all y.1))
 
   map_sound : (slot : Slot) (ms : Members) (v : Value) (f : Option TypeDef) → form_of rows slot ≡ f → AllSound ms → map_by is_key ms (readings rows is_key ms) f ≡ Some v → Meant rows is_key slot (D.map ms) v
   map_sound slot ms v (Some (T.Map key key_at elem place mf)) e all h =
-      let x = mapped (λ ps. map ps) (pairs_by (is_key key.0) elem (readings rows is_key ms)) v h in
+      let x = map_some (λ ps. map ps) (pairs_by (is_key key.0) elem (readings rows is_key ms)) v h in
       subst (λ w. Meant rows is_key slot (D.map ms) w) x.2 (key, key_at, elem, place, mf, ms, e, refl, pairs_sound key.0 elem ms x.0 all x.1)
   map_sound slot ms v (Some (T.Struct s)) e all h = named (are_named s.fields ms) refl h
     where
       named : (b : Bool) → are_named s.fields ms ≡ b → if_named b (fields_by s.fields (readings rows is_key ms)) ≡ Some v → Meant rows is_key slot (D.map ms) v
       named true g k =
-          let x = mapped (λ os. struct os) (fields_by s.fields (readings rows is_key ms)) v k in
+          let x = map_some (λ os. struct os) (fields_by s.fields (readings rows is_key ms)) v k in
           subst (λ w. Meant rows is_key slot (D.map ms) w) x.2 (s, ms, e, refl, g, fields_sound s.fields ms x.0 all x.1)
       named false g k = absurd (none-some v k)
   map_sound slot no_members v (Some (T.Union u)) e all h = absurd (none-some v h)
@@ -188,7 +181,7 @@ module _ (rows : List Row) (is_key : ℕ → List ℕ → Bool) where
       held None g q = absurd (none-some v q)
       held (Some p) g q =
           let m = member-named k u.members p g in
-          let x = mapped (λ v. union p.0 v) (meant rows is_key (plainly (p.1).ty) d) v q in
+          let x = map_some (λ v. union p.0 v) (meant rows is_key (plainly (p.1).ty) d) v q in
           let s : k ≡ (p.1).name = text_same k (p.1).name (sym m.named) in
           subst (λ w. Meant rows is_key slot (D.map (member k d no_members)) w) x.2 (u, p.1, d, e, m.placed, ap (λ j. D.map (member j d no_members)) s, all.0 (plainly (p.1).ty) x.0 x.1)
   map_sound slot (member k d (member l c ms)) v (Some (T.Union u)) e all h = absurd (none-some v h)

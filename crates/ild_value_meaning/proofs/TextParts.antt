@@ -1,5 +1,5 @@
 -- The parts of a text with delimiters are shorter than it.
-use Rattle.std.proofs.Common.{◌≡◌, ◌⊎◌, inl, inr, ℕ, ◌+◌, ◌<◌, ◌≤◌, List, [], ◌∷◌, ◌++◌, length, map, Some, refl, sym, subst, ap, arith, length-append}
+use Rattle.std.proofs.Common.{◌≡◌, ◌⊎◌, inl, inr, ℕ, ◌+◌, ◌<◌, ◌≤◌, List, [], ◌∷◌, ◌++◌, length, map, Some, refl, sym, subst, arith, length-append}
 use Rattle.std.specs.Prelude.{option_map}
 use Rattle.std.specs.List.{AllByRecursion, list_all}
 use Rattle.std.proofs.lemmas.Option.{same_Some}
@@ -10,7 +10,7 @@ use Rattle.ild_schema.specs.Joins.{joined, pair_text}
 use Rattle.ild_typed.specs.Strings.{text_in, texts_in, text_pairs}
 use Rattle.ild_typed.specs.Texts.{join, join_pairs, is_parted, same_places, places, joints}
 use Rattle.ild_typed.proofs.Basics.{true_from, if_from, map_from}
-use Rattle.ild_typed.proofs.Entries.{both_from}
+use Rattle.ild_typed.proofs.Entries.{both_from, only_text_data}
 use Rattle.ild_typed.proofs.Rooms.{all_more}
 
 given_long : (d : List ℕ) → IsGiven d → 0 < length d
@@ -64,11 +64,6 @@ pairs_within inner entry given ps k e =
     let y = true_from (same_places (places 0 entry (joined entry (map (pair_text inner) ps))) (joints 0 entry (map (pair_text inner) ps))) (joined entry (map (pair_text inner) ps)) k x.1 in
     pairs_of_parts inner given k ps (subst (λ t. AllByRecursion (λ s. length s ≤ length t) (map (pair_text inner) ps)) y.1 (parts_within entry (map (pair_text inner) ps)))
 
--- the same of data that are texts
-pub text_is : (d : Data) (t : List ℕ) → text_in d ≡ Some t → d ≡ T.text t
-text_is (T.text s) t e = ap T.text (same_Some s t e)
-text_is d t e = absurd cc
-
 abbrev pub IsDataWithin : List ℕ → Data → Type 0
 IsDataWithin k d = (t : List ℕ) × (d ≡ T.text t) × IsWithin k t
 
@@ -77,7 +72,7 @@ datas_within k [] ts e all = tt
 datas_within k (d ∷ ds) ts e all =
     let b = both_from (text_in d) (texts_in ds) ts e in
     let h = subst (AllByRecursion (IsWithin k)) (sym b.all) all in
-    ((b.item, text_is d b.item b.first, h.0), datas_within k ds b.items b.rest h.1)
+    ((b.item, only_text_data d b.item b.first, h.0), datas_within k ds b.items b.rest h.1)
 
 abbrev pub IsEntryWithin : List ℕ → List ℕ × Data → Type 0
 IsEntryWithin k e = (length e.0 < length k) × ((t : List ℕ) × (e.1 ≡ T.text t) × (length t < length k))
@@ -89,4 +84,4 @@ entries_within k (d ∷ es) ps e all =
     let x = map_from {B = List ℕ × List ℕ} (λ s. (d.0, s)) (text_in d.1) b.item b.first in
     let h = subst (AllByRecursion (IsPairWithin k)) (sym b.all) all in
     let f : IsPairWithin k (d.0, x.item) = subst (IsPairWithin k) (sym (same_Some (d.0, x.item) b.item x.made)) h.0 in
-    ((f.0, (x.item, text_is d.1 x.item x.there, f.1)), entries_within k es b.items b.rest h.1)
+    ((f.0, (x.item, only_text_data d.1 x.item x.there, f.1)), entries_within k es b.items b.rest h.1)

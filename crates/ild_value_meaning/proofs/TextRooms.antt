@@ -4,6 +4,8 @@ use Rattle.std.proofs.Common.{◌≡◌, ◌⊎◌, inl, inr, ℕ, zero, suc, �
 use Rattle.std.specs.Prelude.{IsUtf8, IsSomeAnd, slice_get, option_map, option_and_then, is_none}
 use Rattle.std.specs.List.{AllByRecursion}
 use Rattle.std.proofs.lemmas.Option.{same_Some, none-some}
+use Rattle.ild_typed.proofs.OneLayer.{past_typed}
+use Rattle.ild_typed.proofs.Unions.{text_same_data}
 use Rattle.ild_data.specs.Data as T
 use Rattle.ild_data.specs.Data.{Data, depth}
 use Rattle.ild_data.specs.Key.{put, value_at}
@@ -34,10 +36,10 @@ use Rattle.ild_schema.specs.Marks.{field_text, mark_text, mark_kind}
 use Rattle.ild_schema.specs.Rules.{is_of}
 use Rattle.ild_schema.specs.Slots.{form_of, plainly}
 use Rattle.ild_schema.specs.Value as V
-use Rattle.ild_schema.specs.Value.{Value, Values, Pairs, Optionals, values_list, pairs_list, optionals_list, height, optionals_height}
+use Rattle.ild_schema.specs.Value.{Value, Pairs, Optionals, pairs_list, optionals_list, height, optionals_height}
 use Rattle.ild_schema.proofs.Legibly.{legible}
 use Rattle.ild_typed.specs.Layer as L
-use Rattle.ild_typed.specs.Layer.{Layer, as_map, as_struct, as_union}
+use Rattle.ild_typed.specs.Layer.{Layer}
 use Rattle.ild_typed.specs.Slots.{member_of, slot_of}
 use Rattle.ild_typed.specs.Fields.{is_implicit, entries_of, field_entries, tuple_items, all_items}
 use Rattle.ild_typed.specs.Strings.{text_in, texts_in, text_pairs, bytes_in, members_in, in_key_order, map_data, listpairs, stringpairs, stringjoin}
@@ -52,14 +54,14 @@ use Rattle.ild_typed.specs.Layers.{RepresentsSome, FieldsFit}
 use Rattle.ild_typed.specs.OfType.{OfType}
 use Rattle.ild_typed.specs.Schema.{IsSchema}
 use Rattle.ild_typed.proofs.Basics.{then_from, map_from, true_from}
-use Rattle.ild_typed.proofs.Entries.{both_from}
+use Rattle.ild_typed.proofs.Entries.{both_from, only_text_data}
 use Rattle.ild_typed.proofs.OfKinds.{alone_kind, composed_kind}
 use Rattle.ild_typed.proofs.OneValue.{Way, as_null, as_layer, way_of, layer_data}
 use Rattle.ild_typed.proofs.Rooms.{value_more}
 use Rattle.ild_typed.proofs.PartData.{member_data}
 use Rattle.ild_typed.proofs.Structs.{field_from}
 use Rattle.ild_typed.proofs.WalkSound.{any_is}
-use Rattle.ild_value_meaning.proofs.TextParts.{IsWithin, join_within, pairs_within, text_is, IsDataWithin, datas_within, IsEntryWithin, entries_within}
+use Rattle.ild_value_meaning.proofs.TextParts.{IsWithin, join_within, pairs_within, IsDataWithin, datas_within, IsEntryWithin, entries_within}
 
 -- ---- what is known of a part
 
@@ -72,12 +74,6 @@ abbrev pub Lowers : List Row → ℕ → List ℕ → ℕ → Type 0
 Lowers rows room k n = (s : Slot) (w : Value) (t : List ℕ) → OfType rows s w → represented alone rows s w ≡ Some (T.text t) → IsLower k n t w → Fits rows room s w
 
 -- ---- values by their layers
-
-past_typed : (rows : List Row) (over room : ℕ) (s : Slot) (w : Value) → FitsPast rows room over s w → OfType rows s w
-unfolding FitsPast
-past_typed rows zero room s w h = (room, h)
-past_typed rows (suc over) zero s w h = absurd h
-past_typed rows (suc over) (suc room) s w h = past_typed rows over room s w h
 
 opened : (rows : List Row) (m : ℕ) (s : Slot) (v : Value) → Fits rows m s v → ValueFits rows m (λ over. OfType rows) s v
 unfolding FitsPast
@@ -120,9 +116,6 @@ implicit_leaf z o e = absurd cc
 
 -- ---- data that are no texts
 
-same_text_data : (s t : List ℕ) → T.text s ≡ T.text t → s ≡ t
-same_text_data s t e = cc
-
 no_map_text : {ms : T.Members} {t : List ℕ} → T.map ms ≡ T.text t → ⊥
 no_map_text e = absurd cc
 
@@ -139,7 +132,7 @@ entries_of_text : (k inner entry : List ℕ) → IsGiven inner → (es : List (L
 entries_of_text k inner entry given es made =
     let y = map_from T.text (option_and_then (join_pairs inner entry) (text_pairs es)) (T.text k) made in
     let z = then_from (join_pairs inner entry) (text_pairs es) y.item y.there in
-    let is = same_text_data y.item k (same_Some (T.text y.item) (T.text k) y.made) in
+    let is = text_same_data y.item k (same_Some (T.text y.item) (T.text k) y.made) in
     entries_within k es z.item z.there (pairs_within inner entry given z.item k (z.made ∙ ap Some is))
 
 -- ---- parts that are texts
@@ -224,7 +217,7 @@ module _ (rows : List Row) (room : ℕ) (k : List ℕ) (n : ℕ) (low : Lowers r
   member_text UF.StringPrefix d m e =
       let x = then_from (marked_form UF.StringPrefix d) (mark_text m.mark) (T.text k) e in
       let y = map_from (λ s. T.text (x.item ++ s)) (text_in d) (T.text k) x.made in
-      (y.item, text_is d y.item y.there, behind x.item y.item (same_text_data (x.item ++ y.item) k (same_Some (T.text (x.item ++ y.item)) (T.text k) y.made)))
+      (y.item, only_text_data d y.item y.there, behind x.item y.item (text_same_data (x.item ++ y.item) k (same_Some (T.text (x.item ++ y.item)) (T.text k) y.made)))
     where
       behind : (p s : List ℕ) → p ++ s ≡ k → IsWithin k s
       behind [] s e = inr e
@@ -269,7 +262,7 @@ module _ (rows : List Row) (room : ℕ) (k : List ℕ) (n : ℕ) (low : Lowers r
       let x = then_from (stringjoin delim) (all_items (f ∷ fs) ds) (T.text k) made in
       let y = map_from T.text (option_and_then (join delim) (texts_in x.item)) (T.text k) x.made in
       let z = then_from (join delim) (texts_in x.item) y.item y.there in
-      let is = same_text_data y.item k (same_Some (T.text y.item) (T.text k) y.made) in
+      let is = text_same_data y.item k (same_Some (T.text y.item) (T.text k) y.made) in
       (refl, join_low (f ∷ fs) os ds x.item typed e x.there (datas_within k x.item z.item z.there (join_within delim delims z.item k (z.made ∙ ap Some is))) high)
 
   map_text : (form : MapForm) (key : TypeNo) (key_at : ℕ) (value : Slot) (place : ℕ) (m : ℕ) (v : Value) (l : Layer Data) → ClearMap form

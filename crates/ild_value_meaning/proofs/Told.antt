@@ -2,8 +2,10 @@
 use Rattle.std.proofs.Common.{cond, ◌≡◌, ℕ, zero, suc, List, [], ◌∷◌, slice_get, Bool, true, false, Option, Some, None, refl, ap, sym, subst, ◌∙◌}
 use Rattle.std.specs.Prelude.{ℤ, IfSome, option_map, take, ◌||◌, not, find, length}
 use Rattle.std.specs.List.{AllByRecursion}
-use Rattle.std.specs.Option.{option_or, option_map_or}
+use Rattle.std.specs.Option.{option_map_or}
 use Rattle.std.proofs.lemmas.Option.{same_Some, none-some}
+use Rattle.ild_schema.proofs.Passing.{first_none, next_none}
+use Rattle.ild_data.proofs.Options.{map_none}
 use Rattle.ild_schema.specs.declared.def.TypeDef.{TypeDef}
 use Rattle.ild_schema.specs.declared.def.TypeDef.TheVariants as T
 use Rattle.ild_schema.specs.declared.def.StructDef.{StructDef}
@@ -125,18 +127,6 @@ implicits_fit rows [] h t = tt
 implicits_fit rows (f ∷ fs) h t = (λ s e. scalar_fits rows f.slot s (h.0 s e) (spelled_scalar f.implicit s t.0 e), implicits_fit rows fs h.1 t.1)
 
 -- ---- optional fields have none
-
-first_none : {A : Type 0} (a b : Option A) → option_or a b ≡ None → a ≡ None
-first_none None b h = refl
-first_none (Some x) b h = h
-
-next_none : {A : Type 0} (a b : Option A) → option_or a b ≡ None → b ≡ None
-next_none None b h = h
-next_none (Some x) b h = absurd (none-some x (sym h))
-
-map_none : {A B : Type 0} (f : A → B) (o : Option A) → option_map f o ≡ None → o ≡ None
-map_none f None h = refl
-map_none f (Some x) h = absurd (none-some (f x) (sym h))
 
 implicit_passes : (rows : List Row) (at : ℕ) (d : TypeDef) → type_fault rows at d ≡ None → implicit_fault rows d ≡ None
 implicit_passes rows at d h =

@@ -3,6 +3,7 @@ use Rattle.std.proofs.Common.{◌≡◌, ℕ, List, [], ◌∷◌, Bool, true, f
 use Rattle.std.specs.Prelude.{IsSomeAnd, IsUtf8, cond}
 use Rattle.std.specs.List.{AllByRecursion}
 use Rattle.std.proofs.lemmas.Option.{none-some}
+use Rattle.ild_data.proofs.Gets.{got_below}
 use Rattle.ild_data.specs.Data as T
 use Rattle.ild_data.specs.Data.{Data}
 use Rattle.ild_data.specs.Key.{same_text, value_at}
@@ -17,7 +18,6 @@ use Rattle.ild_schema.specs.Value as V
 use Rattle.ild_schema.specs.Value.{Value, Values, Pairs, Optionals, values_list, pairs_list, optionals_list}
 use Rattle.ild_splice_changes.proofs.Maps.{own_text, other_is}
 use Rattle.ild_typed.specs.Layer as L
-use Rattle.ild_typed.specs.Layer.{Layer, as_map, as_hamt}
 use Rattle.ild_schema.specs.Slots.{plainly}
 use Rattle.ild_typed.specs.Layers.{IsNotNull, AreKeysApart, AreKeys, RepresentsSome, FieldsFit, EntriesFit}
 use Rattle.ild_typed.specs.Fits.{IsTextOf}
@@ -25,7 +25,7 @@ use Rattle.ild_typed.specs.Holder.{is_paired}
 use Rattle.ild_value_meaning.specs.Meant.{is_null}
 use Rattle.ild_typed.specs.OfType.{OfType, TestsKeys}
 use Rattle.ild_value_meaning.proofs.ByParts.{ByParts, AreByParts, EntriesByParts, FieldsByParts, AreDistinct, AreInOrder}
-use Rattle.ild_typed.proofs.FormOf.{below_got, there_entries, boolean_form, integer_form, text_form, bytes_form, link_form, any_form, unit_form, enum_form, list_form, struct_form, union_form, map_form, hamt_form}
+use Rattle.ild_typed.proofs.FormOf.{there_entries, boolean_form, integer_form, text_form, bytes_form, link_form, any_form, unit_form, enum_form, list_form, struct_form, union_form, map_form, hamt_form}
 use Rattle.ild_typed.proofs.OneLayer.{in_layer, of_layer, null_in, of_null}
 
 -- keys that are apart
@@ -161,7 +161,7 @@ module _ (rows : List Row) (is_key : ℕ → List ℕ → Bool) (keys : TestsKey
     from_parts (V.struct os) s h = of_layer rows s (V.struct os) (D.Struct h.0) (L.struct (optionals_list os)) h.1 refl (fields_from os (h.0).fields h.2)
     from_parts (V.union n v) s h =
         of_layer rows s (V.union n v) (D.Union h.0) (L.union n v) h.2 refl (subst (λ o. IsSomeAnd o (λ m. Of (plainly m.ty) v)) (sym h.3) (from_parts v (plainly (h.1).ty) h.4))
-    from_parts (V.enum n) s h = of_layer rows s (V.enum n) (D.Enum h.0) (L.enum n) h.2 refl (below_got (h.0).members n h.1 h.3)
+    from_parts (V.enum n) s h = of_layer rows s (V.enum n) (D.Enum h.0) (L.enum n) h.2 refl (got_below (h.0).members n h.1 h.3)
     from_parts V.unit s h = of_layer rows s V.unit (D.Unit h.0) L.unit h.1 refl tt
     from_parts (V.any d) s h = of_layer rows s (V.any d) D.Any (L.any d) h.0 refl (h.2, null_not d h.1)
     from_parts (V.hamt d) s h = of_layer rows s (V.hamt d) (D.Map h.0 h.1 h.2 h.3 (MF.Hamt h.4)) (L.hamt d) h.5 refl (inr h.6)

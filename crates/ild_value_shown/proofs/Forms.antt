@@ -116,8 +116,3 @@ fields_low count d s xs within is same =
 
 pub fields_are : (o : Option TypeDef) (d : TypeDef) (s : StructDef) (xs : List Field) → o ≡ Some d → d ≡ T.Struct s → xs ≡ s.fields → xs ≡ fields_of o
 fields_are o d s xs there is same = same ∙ sym (ap fields_of (there ∙ ap Some is))
-
-pub drop_past : {A : Type 0} (xs : List A) (i : ℕ) → length xs ≤ i → drop i xs ≡ []
-drop_past [] i h = drop_none [] i refl
-drop_past (x ∷ xs) zero h = absurd (omega (arith, h))
-drop_past (x ∷ xs) (suc i) h = drop_past xs i (omega (arith, h))

@@ -2,12 +2,8 @@
 use Rattle.std.proofs.Common.{◌≡◌, ℕ, zero, suc, ◌+◌, ◌<◌, List, [], ◌∷◌, ◌++◌, length, take, Some, None, refl, sym, ap, ◌∙◌, arith, add-one, length-append}
 use Rattle.std.specs.Prelude.{slice_get}
 use Rattle.std.proofs.lemmas.Option.{same_Some, none-some}
+use Rattle.ild_data.proofs.Gets.{got_below}
 use Rattle.ild_schema.specs.Value.{values_of, values_list, pairs_of, pairs_list, optionals_of, optionals_list, Values, no_values, value, Pairs, no_pairs, pair, Optionals, no_optionals, absent, present}
-
-pub within : {A : Type 0} (xs : List A) (n : ℕ) (x : A) → slice_get xs n ≡ Some x → n < length xs
-within [] n x e = absurd (none-some x e)
-within (y ∷ xs) zero x e = omega arith
-within (y ∷ xs) (suc n) x e = let h = within xs n x e in omega arith
 
 pub take_next : {A : Type 0} (xs : List A) (n : ℕ) (x : A) → slice_get xs n ≡ Some x → take (suc n) xs ≡ take n xs ++ x ∷ []
 take_next [] n x e = absurd (none-some x e)
@@ -31,7 +27,7 @@ front_all xs ys n front at past = front ∙ take_past xs (length ys) (ap (slice_
 
 pub front_less : {A B : Type 0} (xs : List A) (ys zs : List B) (n : ℕ) (x : A) (y : B) → n ≡ length ys → Some x ≡ slice_get xs n → zs ≡ ys ++ y ∷ [] → length ys < length xs × (length zs ≡ length ys + 1)
 front_less xs ys zs n x y at there more =
-    let h = within xs n x (sym there) in
+    let h = got_below xs n x (sym there) in
     let count : length zs ≡ length ys + 1 = ap length more ∙ length-append ys (y ∷ []) in
     (omega arith, count)
 

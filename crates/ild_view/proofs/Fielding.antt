@@ -5,6 +5,7 @@ use Rattle.std.specs.Option.{option_map_or}
 use Rattle.std.specs.Borrow.{Bor}
 use Rattle.std.proofs.lemmas.Option.{same_Some, none-some}
 use Rattle.ild_cbor.specs.declared.piece.Piece.{Piece}
+use Rattle.ild_data.proofs.Gets.{got_at}
 use Rattle.ild_data.specs.Data.{Data}
 use Rattle.ild_layer_piece.specs.Answers.{Layered}
 use Rattle.ild_layer_piece.specs.Pieces.{StandsFor}
@@ -35,7 +36,7 @@ use Rattle.ild_typed.specs.Represented.{represented}
 use Rattle.ild_typed.specs.Slots.{fields_of as fields_in}
 use Rattle.ild_view.proofs.Handing.{part_view}
 use Rattle.ild_view.proofs.Parting.{Beside}
-use Rattle.ild_view.proofs.Reading.{got_at, part_low, struct_field, union_member}
+use Rattle.ild_view.proofs.Reading.{part_low, struct_field, union_member}
 use Rattle.ild_view.specs.Front.{BodyHasFront}
 use Rattle.ild_view.specs.LeftOut.{has_implicit}
 use Rattle.ild_view.specs.Parts.{HandsOutMember, field_named, member_held}

@@ -8,8 +8,8 @@ mod Nulling
 mod Implying
 mod Reading
 mod Fielding
-mod Reaching
-mod Indexing
+pub mod Reaching
+pub mod Indexing
 mod Ordering
 mod Tallying
 mod Iterating

@@ -3,6 +3,7 @@ use Rattle.std.proofs.Common.{◌≡◌, ℕ, List, Bool, true, false, not, Opti
 use Rattle.std.specs.Prelude.{IsSomeAnd, ℤ, ◌&&◌, option_and_then, slice_get}
 use Rattle.std.specs.List.{AllByRecursion}
 use Rattle.std.proofs.lemmas.Option.{same_Some, none-some}
+use Rattle.ild_typed.proofs.WalkSound.{any_is}
 use Rattle.ild_data.specs.Data as T
 use Rattle.ild_data.specs.Data.{Data}
 use Rattle.ild_data.specs.declared.hamt_shape.HamtShape.{HamtShape}
@@ -36,7 +37,7 @@ use Rattle.ild_typed.specs.Represented.{represented, represented_fields, represe
 use Rattle.ild_typed.specs.Slots.{member_of}
 use Rattle.ild_typed.specs.Strings.{listpairs, map_data, stringpairs}
 use Rattle.ild_typed.proofs.Basics.{map_from, then_from}
-use Rattle.ild_typed.proofs.Composing.{alone_tells, composed_tells}
+use Rattle.ild_typed.proofs.Composing.{alone_tells, composed_tells, a_map_says}
 use Rattle.ild_typed.proofs.FormOf.{entries_there, root_there}
 use Rattle.ild_typed.proofs.OfKinds.{alone_kind, composed_kind}
 use Rattle.ild_typed.proofs.OneLayer.{in_layer}
@@ -63,20 +64,6 @@ is_safe_where rows s e = by s.nullable (slot_has rows s K.Null) e where
 pub null_there : (s : Slot) (t : Data) → is_null_there s t ≡ true → (s.nullable ≡ true) × (t ≡ T.null)
 null_there s T.null e = (e, refl)
 null_there s t e = absurd cc
-
-any_says : (d t : Data) → any_data d ≡ Some t → d ≡ t
-any_says T.null t e = absurd (none-some t e)
-any_says (T.boolean b) t e = same_Some (T.boolean b) t e
-any_says (T.integer n) t e = same_Some (T.integer n) t e
-any_says (T.text s) t e = same_Some (T.text s) t e
-any_says (T.bytes s) t e = same_Some (T.bytes s) t e
-any_says (T.list ds) t e = same_Some (T.list ds) t e
-any_says (T.map ms) t e = same_Some (T.map ms) t e
-any_says (T.link s) t e = same_Some (T.link s) t e
-
-map_says : (d t : Data) → a_map d ≡ Some t → d ≡ t
-map_says (T.map ms) t e = same_Some (T.map ms) t e
-map_says d t e = absurd (none-some t e)
 
 abbrev pub is_hamt : MapForm → Bool
 is_hamt (MF.Hamt p) = true
@@ -176,7 +163,7 @@ module _ (rows : List Row) (clear : IsClear rows) (s : Slot) (safe : is_safe row
     front_any known =
         let x = front_layer some D.Any known in
         let y = then_from any_data (as_any x.layer) t x.made in
-        front_scalar some D.Any known (L.any y.item) (V.any y.item) refl (only_any x.layer y.item y.there) ∙ ap V.any (any_says y.item t y.made)
+        front_scalar some D.Any known (L.any y.item) (V.any y.item) refl (only_any x.layer y.item y.there) ∙ ap V.any (any_is y.item t y.made)
 
     pub front_unit : (form : UnitForm) → form_of rows s ≡ Some (D.Unit form) → f ≡ V.unit
     front_unit form known =
@@ -204,7 +191,7 @@ module _ (rows : List Row) (clear : IsClear rows) (s : Slot) (safe : is_safe row
         let d : TypeDef = D.Map key key_at value at (MF.Hamt p) in
         let x = front_layer some d known in
         let y = then_from a_map (as_hamt x.layer) t x.made in
-        let is : f ≡ V.hamt t = front_scalar some d known (L.hamt y.item) (V.hamt y.item) refl (only_hamt x.layer y.item y.there) ∙ ap V.hamt (map_says y.item t y.made) in
+        let is : f ≡ V.hamt t = front_scalar some d known (L.hamt y.item) (V.hamt y.item) refl (only_hamt x.layer y.item y.there) ∙ ap V.hamt (a_map_says y.item t y.made) in
         record { is = is; fits = root_there rows (OfType rows) p key value t (front_fits some d known (V.hamt t) (L.hamt t) is refl) }
 
     -- values with parts

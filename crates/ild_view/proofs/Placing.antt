@@ -4,9 +4,11 @@ use Rattle.std.specs.Prelude.{is_some, option_and_then, slice_get}
 use Rattle.std.specs.Option.{option_map_or}
 use Rattle.std.specs.List.{All, AllByRecursion}
 use Rattle.std.proofs.lemmas.Option.{same_Some, none-some}
+use Rattle.ild_view_walk.proofs.Finding.{inline_form}
+use Rattle.ild_data.proofs.AllOf.{all_at}
 use Rattle.ild_cbor.specs.declared.piece.Piece.{Piece}
 use Rattle.ild_cbor.specs.declared.piece.Piece.TheVariants as Q
-use Rattle.ild_layer_piece.specs.Pieces.{IsNumbered, form_key, inline_key, passed_key}
+use Rattle.ild_layer_piece.specs.Pieces.{IsNumbered, inline_key, passed_key}
 use Rattle.ild_schema.specs.Clear.{IsSafe}
 use Rattle.ild_schema.specs.Copies.{base}
 use Rattle.ild_schema.specs.Fitting.{ImplicitFits}
@@ -22,7 +24,6 @@ use Rattle.ild_schema.specs.declared.def.StructDef.{StructDef}
 use Rattle.ild_schema.specs.declared.def.TypeDef.{TypeDef}
 use Rattle.ild_schema.specs.declared.def.TypeDef.TheVariants as D
 use Rattle.ild_schema.specs.declared.def.UnionDef.{UnionDef}
-use Rattle.ild_schema.specs.declared.def.UnionForm.{UnionForm}
 use Rattle.ild_schema.specs.declared.def.UnionForm.TheVariants as UF
 use Rattle.ild_schema.specs.declared.number.Slot.{Slot}
 use Rattle.ild_schema.specs.declared.number.TypeNo.{TypeNo}
@@ -84,11 +85,6 @@ module _ (rows : List Row) (table : IsTable rows) (legible : IsLegible rows) (s 
 
 -- ---- fields
 
-all_at : {A : Type 0} (P : A → Type 0) (xs : List A) (i : ℕ) (x : A) → AllByRecursion P xs → slice_get xs i ≡ Some x → P x
-all_at P [] i x all e = absurd (none-some x e)
-all_at P (y ∷ ys) zero x all e = subst P (same_Some y x e) all.0
-all_at P (y ∷ ys) (suc i) x all e = all_at P ys i x all.1 e
-
 number_at : {A : Type 0} (count : ℕ) (number : A → ℕ) (xs : List A) (i : ℕ) (x : A) → All (λ k. k < count) (map number xs) → slice_get xs i ≡ Some x → number x < count
 number_at count number [] i x all e = absurd (none-some x e)
 number_at count number (y ∷ ys) zero x all e = subst (λ z. number z < count) (same_Some y x e) (all 0 0 (omega arith))
@@ -105,10 +101,6 @@ module _ (rows : List Row) (legible : IsLegible rows) (s : Slot) (def : StructDe
   field_implicit = all_at (ImplicitFits rows) def.fields i g (legible.fitting (base rows s.ty.0) (D.Struct def) known) there
 
 -- ---- members
-
-inline_form : (form : UnionForm) → is_some (form_key form) ≡ true → (k : List ℕ) × (form ≡ UF.Inline k)
-inline_form (UF.Inline key) e = (key, refl)
-inline_form form e = absurd cc
 
 module _ (rows : List Row) (legible : IsLegible rows) (s : Slot) (u : UnionDef) (known : form_of rows s ≡ Some (D.Union u)) where
   pub member_in : (n : ℕ) (m : Member) → slice_get u.members n ≡ Some m → IsWithin (length rows) (D.Union u) → m.ty.0 < length rows

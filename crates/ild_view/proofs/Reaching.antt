@@ -6,6 +6,7 @@ use Rattle.std.specs.Borrow.{Bor}
 use Rattle.std.proofs.lemmas.Option.{none-some}
 use Rattle.ild_cbor.specs.Span.{item_of}
 use Rattle.ild_cbor.specs.declared.piece.Piece.TheVariants as Q
+use Rattle.ild_data.proofs.Gets.{past_end, drop_past}
 use Rattle.ild_data.specs.Data as T
 use Rattle.ild_data.specs.Data.{Data, Items, items_list}
 use Rattle.ild_data.specs.Key.{same_text}
@@ -51,16 +52,11 @@ use Rattle.ild_view.specs.declared.view.View.{View}
 
 -- ---- elements are few
 
-list_short : (ds : Items) → length (spell (T.list ds)) ≤ 4194304 → length (items_list ds) < 2 ^ 64
+pub list_short : (ds : Items) → length (spell (T.list ds)) ≤ 4194304 → length (items_list ds) < 2 ^ 64
 list_short ds h =
     let few = items_count ds in
     let sum = length-append (head 4 (length (items_list ds))) (spell_items ds) in
     omega (arith, h, few, sum)
-
-past_end : {A : Type 0} (xs : List A) (i : ℕ) → length xs ≤ i → slice_get xs i ≡ None
-past_end [] i h = refl
-past_end (x ∷ xs) zero h = absurd (omega (arith, h))
-past_end (x ∷ xs) (suc i) h = past_end xs i (omega (arith, h))
 
 sized_none : (t : Data) (i : ℕ) → length (spell t) ≤ 4194304 → 2 ^ 64 ≤ i → item_of t i ≡ None
 sized_none (T.list ds) i h far = let few = list_short ds h in past_end (items_list ds) i (omega (arith, few, far))
@@ -183,12 +179,6 @@ drop_at : {A : Type 0} (xs : List A) (i : ℕ) (x : A) → i < length xs → x �
 drop_at [] i x h e = absurd (omega (arith, h))
 drop_at (y ∷ ys) zero x h e = ap (λ z. z ∷ ys) (sym e)
 drop_at (y ∷ ys) (suc i) x h e = drop_at ys i x (omega (arith, h)) e
-
-drop_past : {A : Type 0} (xs : List A) (i : ℕ) → length xs ≤ i → drop i xs ≡ []
-drop_past [] zero h = refl
-drop_past [] (suc i) h = refl
-drop_past (x ∷ xs) zero h = absurd (omega (arith, h))
-drop_past (x ∷ xs) (suc i) h = drop_past xs i (omega (arith, h))
 
 pub moved : (rows : List Row) (to : InSlot) (v : View) (k : List ℕ) (r : Option View) → IsPartView rows to v
     → ((f : Value) → IsView v f → HandsOut (table_of v) (part (seen (table_of v) (slot_of v, f)) k) r) → HandsOut rows (part (seen rows to) k) r

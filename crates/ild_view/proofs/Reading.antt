@@ -1,5 +1,5 @@
 -- What readers of a layer answer of a front's data.
-use Rattle.std.proofs.Common.{◌≡◌, ◌<◌, ◌||◌, ℕ, zero, suc, List, [], ◌∷◌, Bool, true, false, not, length, get_or, arith, Option, Some, None, option_map, refl, sym, ◌∙◌, ap, subst}
+use Rattle.std.proofs.Common.{◌≡◌, ◌<◌, ◌||◌, ℕ, List, Bool, true, false, not, Option, Some, None, option_map, refl, sym, ◌∙◌, ap, subst}
 use Rattle.std.specs.Prelude.{IfSome, IsSomeAnd, option_and_then, slice_get}
 use Rattle.std.specs.Option.{option_map_or}
 use Rattle.std.proofs.lemmas.Option.{same_Some, none-some}
@@ -134,11 +134,6 @@ pub no_refusal : (rows : List Row) → IsLegible rows → (s : Slot) (d : TypeDe
 no_refusal rows legible s d p t l w known stands made refused =
     let own : why_of d t ≡ None = (layer_or_why d (legible.clear.types (base rows s.ty.0) d known) (legible.delims (base rows s.ty.0) d known) t (piece_rises rows p t stands)).1 (l, made) in
     none-some (told w) (sym own ∙ sym (ap (option_and_then (λ (k : TypeDef). why_of k t)) known) ∙ refused)
-
-pub got_at : {A : Type 0} (xs : List A) (n : ℕ) (x : A) → n < length xs → x ≡ get_or xs n x → slice_get xs n ≡ Some x
-got_at [] n x less is = absurd (omega (arith, less))
-got_at (y ∷ ys) zero x less is = ap Some (sym is)
-got_at (y ∷ ys) (suc n) x less is = got_at ys n x (omega (arith, less)) is
 
 pub part_low : (rows : List Row) (n i : ℕ) (d : TypeDef) → def_at rows n ≡ Some d → IsPartOf rows n i → i < parts_of d
 part_low rows n i d is h = subst (λ o. IfSome o (λ k. i < parts_of k)) is h

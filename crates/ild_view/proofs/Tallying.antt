@@ -3,13 +3,12 @@ use Rattle.std.proofs.Common.{◌≡◌, ℕ, zero, suc, ◌+◌, ◌<◌, ◌�
 use Rattle.std.specs.Prelude.{nat_eq, slice_get}
 use Rattle.std.specs.Cmp.{nat_eq_equiv}
 use Rattle.std.specs.List.{AllByRecursion, IsDistinct, list_any}
-use Rattle.std.proofs.lemmas.Bool.{eq-eqb, eqb-true}
+use Rattle.std.proofs.lemmas.Bool.{eq-eqb, eqb-true, and_parts}
 use Rattle.std.proofs.lemmas.Map.Made.{length-from_same_keys}
 use Rattle.std.proofs.lemmas.Option.{same_Some, none-some}
 use Rattle.ild_data.specs.Data.{Data}
 use Rattle.ild_schema.specs.declared.def.Field.{Field}
 use Rattle.ild_struct.specs.Present.{ArePresent, ComeOnce}
-use Rattle.ild_typed.proofs.Basics.{both_true}
 use Rattle.ild_view.specs.Counted.{MayLack, is_optional_at, is_optional_in, optional_of, present_of, required_of}
 
 nat_apart : (m n : ℕ) → (m ≡ n → ⊥) → nat_eq m n ≡ false
@@ -184,7 +183,7 @@ held_at (o ∷ os) (suc q) h = held_at os q h
 
 kept_at : (fs : List Field) (os : List (Option Data)) (q : ℕ) → is_kept fs os q ≡ true → KeptAt fs os q
 kept_at fs os q h =
-    let both = both_true (is_optional_at fs q) (is_held (slice_get os q)) h in
+    let both = and_parts (is_optional_at fs q) (is_held (slice_get os q)) h in
     let x = optional_at fs q both.0 in
     let y = held_at os q both.1 in
     record { field = x.0; there = x.1; optional = x.2; data_there = y.0; held = y.1 }

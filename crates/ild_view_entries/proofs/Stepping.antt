@@ -1,24 +1,18 @@
 -- Steps over the entries of a map: the first that is left, and those behind it.
-use Rattle.std.proofs.Common.{ℕ, List, [], ◌∷◌, map, Option, Some, None}
+use Rattle.std.proofs.Common.{ℕ, List, [], ◌∷◌, map, Some, None}
 use Rattle.std.specs.Borrow.{Bor}
 use Rattle.ild_data.specs.Data as T
 use Rattle.ild_data.specs.Data.{Data}
-use Rattle.ild_cbor.specs.Nodes.{Finds, HasData}
+use Rattle.ild_cbor.specs.Nodes.{HasData}
 use Rattle.ild_cbor.specs.Steps.{HasItems, ItemsGive}
 use Rattle.ild_cbor.specs.declared.items.Items.{Items as ItemsLeft}
 use Rattle.ild_cbor.specs.declared.node.Node.{Node}
 use Rattle.ild_cbor.specs.declared.piece.Piece.TheVariants as Q
 use Rattle.ild_view_entries.specs.Left.{FirstStep, IsPairOf}
 use Rattle.ild_view_entries.specs.declared.left.EntriesLeft.TheVariants as R
-use Rattle.ild_layer_piece.specs.Entries.{EntriesGive, Found, HasLeft}
+use Rattle.ild_layer_piece.specs.Entries.{EntriesGive, HasLeft}
 use Rattle.ild_layer_piece.specs.declared.walk.MapEntries.{MapEntries}
 use Rattle.ild_typed.specs.Strings.{pair_data}
-
-pub finds_found : (n : Node) (place : ℕ) (o : Option Data) (r : Option Node) → Finds n place o r → Found o r
-finds_found n place (Some d) (Some m) h = h.stands
-finds_found n place None None h = tt
-finds_found n place (Some d) None h = h
-finds_found n place None (Some m) h = h
 
 -- ---- entries, form by form
 

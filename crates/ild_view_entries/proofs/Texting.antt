@@ -1,23 +1,18 @@
 -- The pairs of a text are those of which it was made.
-use Rattle.std.proofs.Common.{◌≡◌, ◌<◌, ℕ, List, [], ◌∷◌, true, false, length, arith, option_map, Some, sym, ◌∙◌, ap}
+use Rattle.std.proofs.Common.{◌≡◌, ◌<◌, ℕ, List, true, false, length, option_map, Some, sym, ◌∙◌, ap}
 use Rattle.std.specs.Prelude.{option_and_then}
 use Rattle.std.proofs.lemmas.Option.{same_Some}
 use Rattle.ild_data.specs.Data as T
 use Rattle.ild_data.specs.Data.{Data}
 use Rattle.ild_data.specs.Key.{value_at}
-use Rattle.ild_schema.specs.Clear.{IsGiven}
 use Rattle.ild_schema.specs.Joins.{IsPairs}
-use Rattle.ild_struct.proofs.Splitting.{pairs_shown, text_value_at}
+use Rattle.ild_struct.proofs.Splitting.{pairs_shown, text_value_at, some_given}
 use Rattle.ild_layer_fields.specs.Entries.{text_entries}
 use Rattle.ild_typed.specs.Strings.{stringpairs, text_in, text_pairs}
 use Rattle.ild_typed.specs.Texts.{join_pairs}
 use Rattle.ild_typed.proofs.Basics.{map_from, then_from}
 use Rattle.ild_typed.proofs.CleanStructs.{split_of_pairs}
 use Rattle.ild_typed.proofs.JoinLaws.{pairs_are_pairs}
-
-some_given : (s : List ℕ) → 0 < length s → IsGiven s
-some_given [] h = absurd (omega (arith, h))
-some_given (c ∷ s) h = tt
 
 module _ (inner entry : List ℕ) (some : 0 < length inner) (more : 0 < length entry) (es : List (List ℕ × Data)) (t : Data) (made : stringpairs inner entry es ≡ Some t) (s : List ℕ) (is : t ≡ T.text s) where
   pub text_there : (ps : List (List ℕ × List ℕ)) → IsPairs inner entry ps s → es ≡ text_entries ps

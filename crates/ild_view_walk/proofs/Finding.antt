@@ -4,6 +4,7 @@ use Rattle.std.specs.Prelude.{is_some, slice_get, IfSome}
 use Rattle.std.specs.List.{All, AllByRecursion}
 use Rattle.std.specs.Option.{option_and_then, option_map_or}
 use Rattle.std.proofs.lemmas.Option.{none-some, same_Some}
+use Rattle.ild_data.proofs.AllOf.{all_at}
 use Rattle.ild_data.specs.Data as T
 use Rattle.ild_data.specs.Data.{Data}
 use Rattle.ild_data.proofs.Lists.{items_of-items_list}
@@ -32,7 +33,6 @@ use Rattle.ild_schema.specs.declared.def.Member.{Member}
 use Rattle.ild_schema.specs.declared.def.UnionDef.{UnionDef}
 use Rattle.ild_schema.specs.declared.def.UnionForm.{UnionForm}
 use Rattle.ild_schema.specs.declared.def.UnionForm.TheVariants as UF
-use Rattle.ild_layer_fields.proofs.Placing.{all_at}
 use Rattle.ild_struct.proofs.Splitting.{given_some}
 use Rattle.ild_schema.specs.declared.def.TypeDef.{TypeDef}
 use Rattle.ild_schema.specs.declared.def.TypeDef.TheVariants as D
@@ -225,7 +225,7 @@ member_low count [] n m all got = absurd (none-some m got)
 member_low count (q ∷ ms) zero m all got = subst (λ (w : Member). w.ty.0 < count) (same_Some q m got) (all 0 0 (omega arith))
 member_low count (q ∷ ms) (suc n) m all got = member_low count ms n m (λ i v less. all (suc i) v (omega (arith, less))) got
 
-inline_form : (form : UnionForm) → is_some (form_key form) ≡ true → (k : List ℕ) × (form ≡ UF.Inline k)
+pub inline_form : (form : UnionForm) → is_some (form_key form) ≡ true → (k : List ℕ) × (form ≡ UF.Inline k)
 inline_form (UF.Inline key) e = (key, refl)
 inline_form form e = absurd cc
 

@@ -4,6 +4,7 @@ use Rattle.std.specs.Prelude.{IfSome, slice_get, option_and_then, is_none}
 use Rattle.std.specs.Option.{option_map_or}
 use Rattle.std.specs.List.{AllByRecursion}
 use Rattle.std.proofs.lemmas.Option.{same_Some, none-some}
+use Rattle.ild_data.proofs.AllOf.{all_second}
 use Rattle.ild_data.specs.Data as T
 use Rattle.ild_data.specs.Data.{Data, depth, items_depth, members_depth}
 use Rattle.ild_data.specs.Key.{put, value_at}
@@ -33,7 +34,7 @@ use Rattle.ild_typed.specs.Hamt.{alone}
 use Rattle.ild_typed.specs.Kinds.{kind_word_of}
 use Rattle.ild_typed.specs.Levels.{struct_levels}
 use Rattle.ild_typed.specs.Layer as L
-use Rattle.ild_typed.specs.Layer.{Layer, as_list, as_map, as_struct, as_union}
+use Rattle.ild_typed.specs.Layer.{Layer, as_list, as_struct, as_union}
 use Rattle.ild_typed.specs.Pieces.{needs}
 use Rattle.ild_typed.specs.Refused.{AreParts}
 use Rattle.ild_typed.specs.Slots.{slot_of}
@@ -101,17 +102,13 @@ implicit_flat (Some s) d e = ap depth (scalar_same s d e) ∙ by s where
   by (C.Int n) = refl
   by (C.Text x) = refl
 
-all_behind : {A : Type 0} (P : A → Type 0) (xs ys : List A) → AllByRecursion P (xs ++ ys) → AllByRecursion P ys
-all_behind P [] ys all = all
-all_behind P (x ∷ xs) ys all = all_behind P xs ys all.1
-
 fields_flat : (fs : List Field) (os : List (Option Data)) (es : List (List ℕ × Data)) → field_entries fs os ≡ Some es → AllByRecursion EntryFlat es → AllByRecursion MaybeFlat os
 fields_flat fs [] es e all = tt
 fields_flat [] (o ∷ os) es e all = absurd (none-some es e)
 fields_flat (f ∷ fs) (o ∷ os) es e all =
     let x = field_from f fs o os es e in
     let parted : AllByRecursion EntryFlat (written f o ++ x.rest) = subst (AllByRecursion EntryFlat) x.is all in
-    (own o x.rest parted, fields_flat fs os x.rest x.later (all_behind EntryFlat (written f o) x.rest parted))
+    (own o x.rest parted, fields_flat fs os x.rest x.later (all_second EntryFlat (written f o) x.rest parted))
   where
     by : (d : Data) (rest : List (List ℕ × Data)) (name : List ℕ) (b : Bool) → is_implicit f.implicit d ≡ b → AllByRecursion EntryFlat (cond b [] ((name, d) ∷ []) ++ rest) → IsFlat d
     by d rest name true is h = implicit_flat f.implicit d is

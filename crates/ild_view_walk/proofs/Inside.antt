@@ -6,6 +6,7 @@ use Rattle.std.specs.List.{AllByRecursion}
 use Rattle.ild_cbor.specs.declared.node.Node.{Node}
 use Rattle.ild_cbor.specs.declared.piece.Piece.{Piece}
 use Rattle.ild_cbor.specs.declared.piece.Piece.TheVariants as P
+use Rattle.ild_layer_places.proofs.Refusing.{at_spot}
 use Rattle.ild_data.specs.Data.{Data}
 use Rattle.ild_layer_piece.specs.Pieces.{form_key, inline_key, passed_key}
 use Rattle.ild_layer_places.specs.Ending.{has_inline}
@@ -77,10 +78,6 @@ all_here k u (L.union n d) form = by (slice_get u.members n) where
   by None = tt
   by (Some m) = (ap (λ f. member_steps f m) form, tt)
 all_here k u l form = tt
-
-at_spot : (Q : Spot → Type 0) (done : List Spot) (p : Spot) (others : List Spot) → AllByRecursion Q (done ++ p ∷ others) → Q p
-at_spot Q [] p others all = all.0
-at_spot Q (d ∷ done) p others all = at_spot Q done p others all.1
 
 inline_union : (d : TypeDef) → has_inline d ≡ true → (u : UnionDef) × (k : List ℕ) × (d ≡ D.Union u) × (u.form ≡ UF.Inline k)
 inline_union (D.Union u) e = by u.form refl e where

@@ -4,6 +4,7 @@ use Rattle.std.specs.Prelude.{◌⊎◌, nat_lt}
 use Rattle.std.specs.Option.{option_or}
 use Rattle.std.specs.List.{AllByRecursion}
 use Rattle.std.proofs.lemmas.Bool.Decides.{nat_tests}
+use Rattle.ild_data.proofs.AllOf.{all_append}
 use Rattle.ild_data.specs.Data.{Data}
 use Rattle.ild_data.specs.Tree.{IsTree}
 use Rattle.ild_schema.specs.Clear.{IsSafe}
@@ -26,7 +27,6 @@ use Rattle.ild_typed.proofs.WalkSound.{refused_sound}
 use Rattle.ild_typed.proofs.WalkTotal.{parts_fit}
 use Rattle.ild_layer_parts.specs.Ready.{IsIn}
 use Rattle.ild_view_walk.specs.inside.Stacked.{AreSifted, IsShown}
-use Rattle.ild_layer_parts.proofs.Lists.{all_join}
 use Rattle.ild_view_walk.proofs.Walking.{part_refused, why_refused}
 
 -- ---- rooms that are wide enough tell the same causes
@@ -94,10 +94,10 @@ module _ (rows : List Row) (schema : IsSchema rows) (legible : IsLegible rows) (
           → AllByRecursion (IsShown rows) qs
       parts_shown done [] qs e all trees sifted low = subst (AllByRecursion (IsShown rows)) (sym sifted) tt
       parts_shown done (q ∷ rest) qs e all trees (inl (fits, more)) low =
-          parts_shown (done ++ q ∷ []) rest qs (append_assoc done (q ∷ []) rest ∙ e) (all_join (At rows left) done (q ∷ []) all (fits trees.0 left, tt)) trees.1 more low
+          parts_shown (done ++ q ∷ []) rest qs (append_assoc done (q ∷ []) rest ∙ e) (all_append (At rows left) done (q ∷ []) all (fits trees.0 left, tt)) trees.1 more low
       parts_shown done (q ∷ rest) qs e all trees (inr (others, same, more)) low =
           let lows : AllByRecursion (λ (q : Spot). IsIn rows q.slot) (q ∷ others) = subst (AllByRecursion (λ (q : Spot). IsIn rows q.slot)) same low in
-          by others same (λ own. parts_shown (done ++ q ∷ []) rest others (append_assoc done (q ∷ []) rest ∙ e) (all_join (At rows left) done (q ∷ []) all (own, tt)) trees.1 more lows.1)
+          by others same (λ own. parts_shown (done ++ q ∷ []) rest others (append_assoc done (q ∷ []) rest ∙ e) (all_append (At rows left) done (q ∷ []) all (own, tt)) trees.1 more lows.1)
           (table_walk rows schema left q.slot lows.0 q.tree trees.0)
         where
           by : (others : List Spot) → qs ≡ q ∷ others → (At rows left q → AllByRecursion (IsShown rows) others) → ((f : Value) × Front rows left q.slot f q.tree) ⊎ ((r : Refusal) × Refused rows left q.slot q.tree r)

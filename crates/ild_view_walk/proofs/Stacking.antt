@@ -4,8 +4,8 @@ use Rattle.std.specs.Prelude.{◌↔◌, IfOk, Result, Ok}
 use Rattle.std.specs.declared.alloc.AllocError.{AllocError}
 use Rattle.std.specs.Borrow.{Bor}
 use Rattle.std.specs.List.{AllByRecursion}
+use Rattle.ild_data.proofs.AllOf.{all_split, all_append}
 use Rattle.ild_data.specs.Data as T
-use Rattle.ild_data.specs.Data.{Data}
 use Rattle.ild_data.specs.Tree.{IsTree}
 use Rattle.ild_schema.specs.Kinds.{meant}
 use Rattle.ild_schema.specs.Legible.{IsLegible}
@@ -35,7 +35,6 @@ use Rattle.ild_layer_parts.specs.Ready.{AreReady, AreReadyBoth, IsIn, IsInlined,
 use Rattle.ild_view_walk.specs.inside.Stacked.{Adds, PartsAreAt, AreSifted, PartIsAt, IsPlain, IsShown, Replaces}
 use Rattle.ild_view_walk.proofs.Flatness.{IsFine, few_levels, parts_fine}
 use Rattle.ild_view_walk.proofs.Spreading.{never_shown, shown_back, shown_onward}
-use Rattle.ild_layer_parts.proofs.Lists.{all_join}
 use Rattle.ild_layer_parts.proofs.Showing.{form_of_slot, null_checks, plain_shows}
 
 -- ---- lists of spots
@@ -203,10 +202,6 @@ held_last rows (y ∷ xs) x (p ∷ ps) h =
     let r = held_last rows xs x ps h.1 in
     record { before = p ∷ r.before; last = r.last; is = ap (λ qs. p ∷ qs) r.is; held = (h.0, r.held); own = r.own }
 
-all_split : {A : Type 0} (P : A → Type 0) (xs ys : List A) → AllByRecursion P (xs ++ ys) → AllByRecursion P xs × AllByRecursion P ys
-all_split P [] ys all = (tt, all)
-all_split P (x ∷ xs) ys all = let r = all_split P xs ys all.1 in ((all.0, r.0), r.1)
-
 module _ (rows : List Row) (ps : List Spot) (left front : List Part) (x : Part) (popped : left ≡ front ++ x ∷ []) (w : Going rows ps left) where
   last_of : Last rows front x w.spots
   last_of = held_last rows front x w.spots (subst (λ xs. PartsAreAt rows xs w.spots) popped w.held)
@@ -224,10 +219,10 @@ module _ (rows : List Row) (ps : List Spot) (left front : List Part) (x : Part) 
       record {
         spots = l.before ++ r.spots;
         held = subst (λ xs. PartsAreAt rows xs (l.before ++ r.spots)) (sym r.is) (held_join rows front l.before r.added r.spots l.held r.held);
-        plain = all_join (IsPlain rows) l.before r.spots plain_of.0 r.plain;
-        onward = λ h. let both = shown_of h in all_join (IsShown rows) l.before r.spots both.0 (r.onward both.1.0);
+        plain = all_append (IsPlain rows) l.before r.spots plain_of.0 r.plain;
+        onward = λ h. let both = shown_of h in all_append (IsShown rows) l.before r.spots both.0 (r.onward both.1.0);
         back = λ h. let both = all_split (IsShown rows) l.before r.spots h in
-            w.back (subst (AllByRecursion (IsShown rows)) (sym l.is) (all_join (IsShown rows) l.before (l.last ∷ []) both.0 (r.back both.1, tt)));
+            w.back (subst (AllByRecursion (IsShown rows)) (sym l.is) (all_append (IsShown rows) l.before (l.last ∷ []) both.0 (r.back both.1, tt)));
       }
 
   pub going_refused : ((p : Spot) → IsSpotted rows x p → IsPlain rows p → IsShown rows p → ⊥) → AllByRecursion (IsShown rows) ps → ⊥
@@ -242,7 +237,7 @@ going_done rows ps left none w = w.back (by w.spots (subst (λ xs. PartsAreAt ro
 -- ---- each part is ready
 
 pub ready_more : (rows : List Row) (xs : List Part) (x : Part) (new : List Part) → new ≡ xs ++ x ∷ [] → IsReady rows x → AllByRecursion (IsReady rows) xs → AllByRecursion (IsReady rows) new
-ready_more rows xs x new is own all = subst (AllByRecursion (IsReady rows)) (sym is) (all_join (IsReady rows) xs (x ∷ []) all (own, tt))
+ready_more rows xs x new is own all = subst (AllByRecursion (IsReady rows)) (sym is) (all_append (IsReady rows) xs (x ∷ []) all (own, tt))
 
 pub ready_last : (rows : List Row) (left front : List Part) (x : Part) → left ≡ front ++ x ∷ [] → AllByRecursion (IsReady rows) left → AllByRecursion (IsReady rows) front × IsReady rows x
 ready_last rows left front x is all = let r = all_split (IsReady rows) front (x ∷ []) (subst (AllByRecursion (IsReady rows)) is all) in (r.0, r.1.0)

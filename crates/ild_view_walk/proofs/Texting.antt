@@ -1,7 +1,7 @@
 -- What is found of a map as the pairs of a text by itself.
 use Rattle.std.proofs.Common.{◌≡◌, ℕ, ◌+◌, ◌<◌, List, [], ◌∷◌, length, Bool, true, false, cond, not, option_map, Some, None, refl, sym, ◌∙◌, ap, subst, arith, inl}
 use Rattle.std.specs.Option.{option_and_then}
-use Rattle.std.proofs.lemmas.Option.{none-some, same_Some}
+use Rattle.std.proofs.lemmas.Option.{none-some}
 use Rattle.ild_data.specs.Data as T
 use Rattle.ild_data.specs.Data.{Data}
 use Rattle.ild_schema.specs.Joins.{IsPairs}
@@ -12,7 +12,7 @@ use Rattle.ild_schema.specs.declared.number.Slot.{Slot}
 use Rattle.ild_schema.specs.declared.number.TypeNo.{TypeNo}
 use Rattle.ild_schema.specs.declared.row.Row.{Row}
 use Rattle.ild_layer_fields.specs.Entries.{text_entries}
-use Rattle.ild_struct.proofs.Splitting.{split_there}
+use Rattle.ild_struct.proofs.Splitting.{split_there, only_text}
 use Rattle.ild_typed.specs.Causes.{why_of}
 use Rattle.ild_typed.specs.Cuts as Cuts
 use Rattle.ild_typed.specs.Cuts.{is_split_pairs}
@@ -35,10 +35,6 @@ use Rattle.ild_layer_parts.proofs.Asking.{deep_at, keys_at, none_at, own_at}
 pub no_text : (key : TypeNo) (key_at : ℕ) (value : Slot) (at : ℕ) (inner entry : List ℕ) (t : Data) → None ≡ text_in t → why_of (D.Map key key_at value at (MF.StringPairs inner entry)) t ≡ Some W.Kind
 no_text key key_at value at inner entry (T.text s) e = absurd (none-some s e)
 no_text key key_at value at inner entry t e = refl
-
-only_text : (t : Data) (s : List ℕ) → Some s ≡ text_in t → t ≡ T.text s
-only_text (T.text a) s e = ap T.text (sym (same_Some s a e))
-only_text t s e = absurd (none-some s (sym e))
 
 text_pairs_back : (ps : List (List ℕ × List ℕ)) → text_pairs (text_entries ps) ≡ Some ps
 text_pairs_back [] = refl

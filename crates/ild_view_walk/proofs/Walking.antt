@@ -2,6 +2,7 @@
 use Rattle.std.proofs.Common.{◌≡◌, ℕ, zero, suc, ◌+◌, ◌-◌, ◌<◌, List, [], ◌∷◌, ◌++◌, append_assoc, length, Bool, true, false, cond, Some, None, Ok, Err, refl, sym, ◌∙◌, ap, subst, arith, inl, inr}
 use Rattle.std.specs.Prelude.{◌⊎◌}
 use Rattle.std.specs.List.{AllByRecursion}
+use Rattle.ild_data.proofs.AllOf.{all_append}
 use Rattle.ild_data.specs.Data.{Data}
 use Rattle.ild_data.specs.Tree.{IsTree}
 use Rattle.ild_cbor.specs.declared.why.Why.{Why}
@@ -37,7 +38,6 @@ use Rattle.ild_view_walk.specs.Checks.{Checks, Faults, IsPartRefusal, IsRefusal,
 use Rattle.ild_view_walk.specs.inside.Opens.{HasOpened, IsStopped, OpensPiece}
 use Rattle.ild_layer_parts.specs.Part.{FitsAnywhere, IsSpotted}
 use Rattle.ild_layer_parts.specs.Parts.{HasLeft, SplitsOff}
-use Rattle.ild_layer_parts.proofs.Lists.{all_join}
 use Rattle.ild_layer_parts.proofs.Showing.{form_of_slot}
 
 -- ---- the refusal of a piece by itself
@@ -163,7 +163,7 @@ module _ (rows : List Row) (room : ℕ) (s : Slot) (t : Data) (left : ℕ) (part
     rest = others;
     are = subst (AreParts w.type t) (ap (λ xs. w.done ++ xs) is ∙ sym (append_assoc w.done taken others)) w.are;
     room_is = w.room_is;
-    shown = all_join (λ p. RepresentsSome (Fits rows left) rows p.slot p.tree) w.done taken w.shown all;
+    shown = all_append (λ p. RepresentsSome (Fits rows left) rows p.slot p.tree) w.done taken w.shown all;
     has = has;
   }
 

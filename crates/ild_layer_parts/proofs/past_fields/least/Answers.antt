@@ -1,10 +1,10 @@
 use Rattle.std.proofs.Common.{◌≡◌, List, get_or, Some, sym, ◌∙◌, ap, subst, arith}
 use Rattle.std.specs.Prelude.{slice_get}
 use Rattle.std.proofs.lemmas.Option.{same_Some}
+use Rattle.ild_data.proofs.Gets.{got_at}
 use Rattle.ild_schema.specs.declared.def.Field.{Field}
 use Rattle.ild_typed.specs.Fits.{Fits}
 use Rattle.ild_typed.specs.Layers.{RepresentsSome}
-use Rattle.ild_layer_parts.proofs.Lists.{got_at}
 use Rattle.ild_layer_parts.proofs.past_fields.least.Goals as goal
 
 pub returns-then-is_leaf-clause-fits : goal.returns-then-is_leaf-clause-fits

@@ -1,9 +1,9 @@
 use Rattle.std.proofs.Common.{◌≡◌, ◌+◌, ◌<◌, ◌≤◌, length, sym, ◌∙◌, ap, subst, arith}
 use Rattle.std.proofs.lemmas.Bool.{eq-eqb, eqb-true, false≢true}
+use Rattle.ild_data.proofs.Gets.{there_at}
 use Rattle.ild_data.specs.declared.hamt_shape.HamtShape.{HamtShape}
 use Rattle.ild_node_slots.specs.Views.{HasSlots}
 use Rattle.ild_open_nodes.specs.Weights.{weight}
-use Rattle.ild_open_nodes.proofs.Passing.{there_at}
 use Rattle.ild_open_nodes.proofs.Weighing.{weighs_begin, weighs_few, weighs_many, weighs_more}
 use Rattle.ild_open_nodes.proofs.weigh.is_many.Goals as goal
 

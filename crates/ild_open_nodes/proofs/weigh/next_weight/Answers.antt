@@ -1,7 +1,8 @@
-use Rattle.std.proofs.Common.{◌≡◌, subst, arith}
+use Rattle.std.proofs.Common.{subst, arith}
+use Rattle.ild_data.proofs.Gets.{got_below}
 use Rattle.ild_data.specs.Trie.{empty}
 use Rattle.ild_node_slots.specs.Views.{SlotHolds}
-use Rattle.ild_open_nodes.proofs.Passing.{found_at, within}
+use Rattle.ild_open_nodes.proofs.Passing.{found_at}
 use Rattle.ild_open_nodes.proofs.weigh.next_weight.Goals as goal
 
 pub returns-in-Some-clause-walks : goal.returns-in-Some-clause-walks
@@ -14,4 +15,4 @@ pub returns-in-None-clause-walks : goal.returns-in-None-clause-walks
 returns-in-None-clause-walks c = λ v ss i has at less. absurd (let most = c.in-None.ensures.steps c.args.shape v ss i has at in omega (arith, less, most))
 
 pub returns-in-None-clause-weighs : goal.returns-in-None-clause-weighs
-returns-in-None-clause-weighs c = λ v ss i s has at is. absurd (let most = c.in-None.ensures.steps c.args.shape v ss i has at in let less = within ss i s is in omega (arith, less, most))
+returns-in-None-clause-weighs c = λ v ss i s has at is. absurd (let most = c.in-None.ensures.steps c.args.shape v ss i has at in let less = got_below ss i s is in omega (arith, less, most))

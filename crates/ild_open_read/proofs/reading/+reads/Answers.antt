@@ -5,6 +5,9 @@ use Rattle.std.proofs.Math.Logic.{∥∥₁_elim, ∥∥₁_map}
 use Rattle.std.proofs.Props.{props}
 use Rattle.std.proofs.lemmas.Bool.{false≢true}
 use Rattle.std.proofs.lemmas.Result.{err_from_is_err_and}
+use Rattle.ild_layer_parts.proofs.FieldSteps.{plain_numbered}
+use Rattle.ild_data.proofs.Gets.{there_at}
+use Rattle.ild_data.proofs.AllOf.{all_at}
 use Rattle.ild_data.specs.Data as T
 use Rattle.ild_data.specs.Data.{Data}
 use Rattle.ild_open_held.specs.Laws.{IsFronted, is_hamt}
@@ -33,11 +36,10 @@ use Rattle.ild_open_parts.proofs.Typing.{checked_layered, checked_typed, never_r
 use Rattle.ild_open_read.proofs.Checking.{field_checked, has_entries, item_checked, list_elements, map_entries, member_checked, plain_piece, struct_fields, union_member}
 use Rattle.ild_open_read.proofs.Listing.{Listing, items_there, listing_begins, listing_ends, listing_front, listing_goes, listing_stops, listing_wants}
 use Rattle.ild_schema.specs.Fitting.{ImplicitFits}
-use Rattle.ild_layer_fields.proofs.Placing.{all_at}
 use Rattle.ild_open_read.proofs.Fielding.{Fielding, field_done, field_stops, fielding_begins, fielding_ends, fielding_front, fielding_goes, fielding_stops, fielding_wants}
 use Rattle.ild_open_parts.proofs.Forming.{struct_many}
 use Rattle.ild_open_parts.proofs.Handing.{field_at, parts_same}
-use Rattle.ild_open_parts.proofs.Lacking.{free_inlined, free_numbered}
+use Rattle.ild_open_parts.proofs.Lacking.{free_inlined}
 use Rattle.ild_open_parts.proofs.Leaving.{leaf_read}
 use Rattle.ild_open_parts.proofs.Membering.{got}
 use Rattle.ild_open_parts.proofs.Making.{form_is}
@@ -58,7 +60,7 @@ use Rattle.ild_open_nodes.specs.Nodes.{SlotGiven, SlotOwned}
 use Rattle.ild_open_nodes.specs.Reading.{IsNodeView, ReadsNode}
 use Rattle.ild_open_nodes.proofs.Entries.{entry_read, entry_refused, entry_stops, entry_strays}
 use Rattle.ild_open_nodes.proofs.Noding.{gets_only}
-use Rattle.ild_open_nodes.proofs.Passing.{found_at, passing_begins, passing_ends, passing_goes, passing_stops, passes_wants, there_at}
+use Rattle.ild_open_nodes.proofs.Passing.{found_at, passing_begins, passing_ends, passing_goes, passing_stops, passes_wants}
 use Rattle.ild_open_nodes.proofs.Slotting.{Given, Owned, bucket_passes, child_deep, child_passes, in_earlier}
 use Rattle.ild_open_read.proofs.Noded.{at_bucket, at_child, at_empty, node_done, node_faulty, node_known, node_missing, node_stops, reads_entry}
 use Rattle.ild_open_read.proofs.Knowing.{hamt_reads, known_still, node_passed, node_remembered, passed, remembered, still_sound}
@@ -502,7 +504,7 @@ read_pairs-read_slot-requires g t c = λ κs le.
     let rows : List Row = c.args.acc.now in
     let checked = ∥∥₁_map c.requires.fronts (λ y.
     pairing_front g.H.KeyHash.hash_of c.args.at.0 rows c.args.room c.args.reader.now.keep c.args.value y.entries c.loop-key.left c.loop-key.kept _ _ (c.in-Some.key, c.in-Some.part, c.in-Some.behind) (c.loop-key.invariant.0 y.entries y.are y.fronts) c.in-Some.ensures.step) in
-    (omega arith, (le.0, (le.1, (c.requires.within, (free_numbered rows c.in-Some.part c.in-Some.ensures.free, (free_inlined rows c.args.value c.in-Some.part c.in-Some.ensures.free, (c.requires.room, (checked, c.loop-key.invariant.1))))))))
+    (omega arith, (le.0, (le.1, (c.requires.within, (plain_numbered rows c.in-Some.part c.in-Some.ensures.free, (free_inlined rows c.args.value c.in-Some.part c.in-Some.ensures.free, (c.requires.room, (checked, c.loop-key.invariant.1))))))))
 
 pub read_map-returns-in-Some-clause-reads : goal.read_map-returns-in-Some-clause-reads
 read_map-returns-in-Some-clause-reads g t c = λ s d key_at place whole stands is sum le front.
@@ -550,7 +552,7 @@ read_field-read_slot-requires g t c = λ κs le.
     let checked = ∥∥₁_map c.requires.front (λ x.
     let y = c.in-Some.ensures.stands rows f x.tree x.is in
     field_checked rows c.args.room f.slot x.tree y.0 c.in-Some.piece y.1 y.2 x.front) in
-    (omega arith, (le.0, (le.1, (c.requires.within, (free_numbered rows c.in-Some.piece free, (free_inlined rows f.slot c.in-Some.piece free, (c.requires.room, (checked, c.requires.sound))))))))
+    (omega arith, (le.0, (le.1, (c.requires.within, (plain_numbered rows c.in-Some.piece free, (free_inlined rows f.slot c.in-Some.piece free, (c.requires.room, (checked, c.requires.sound))))))))
 
 pub read_field-returns-in_err-val-clause-reads : goal.read_field-returns-in_err-val-clause-reads
 read_field-returns-in_err-val-clause-reads g t c = λ o implicit is fits.

@@ -1,8 +1,9 @@
 use Rattle.std.proofs.Common.{◌≡◌, arith, refl, subst}
 use Rattle.std.specs.Prelude.{IfOk}
+use Rattle.ild_view.proofs.Indexing.{segment_at}
 use Rattle.ild_path_delimiter.proofs.Making.{got_one, held_less, there_less}
 use Rattle.ild_path_delimiter.specs.inside.Levels.{LevelIs}
-use Rattle.ild_path_edit.proofs.Viewing.{segment_at, segment_is}
+use Rattle.ild_path_edit.proofs.Viewing.{segment_is}
 use Rattle.ild_path_item.specs.Texts.{borrowed_text}
 use Rattle.ild_view.specs.Parts.{IsPartView}
 use Rattle.ild_path_delimiter.proofs.level.level_of.Goals as goal

@@ -1,5 +1,6 @@
 use Rattle.std.proofs.Common.{◌<◌, length, ap, subst, arith}
-use Rattle.ild_path_edit.proofs.Viewing.{segment_at, viewed_ends, viewed_on}
+use Rattle.ild_view.proofs.Indexing.{segment_at}
+use Rattle.ild_path_edit.proofs.Viewing.{viewed_ends, viewed_on}
 use Rattle.ild_view.specs.View.{slot_of, table_of}
 use Rattle.ild_path_edit.proofs.views.holders.Goals as goal
 

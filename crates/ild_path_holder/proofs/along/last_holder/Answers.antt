@@ -1,7 +1,8 @@
 use Rattle.std.proofs.Common.{◌≡◌, ◌<◌, ◌≤◌, ◌+◌, ◌-◌, length, refl, ap, subst, arith}
+use Rattle.ild_view.proofs.Indexing.{segment_at}
 use Rattle.ild_schema.specs.Legible.{IsLegible}
 use Rattle.ild_view.specs.View.{table_of}
-use Rattle.ild_path_holder.proofs.Walking.{no_steps, no_view, segment_at, walked_begins, walked_ends, walked_holder, walked_on}
+use Rattle.ild_path_holder.proofs.Walking.{no_steps, no_view, walked_begins, walked_ends, walked_holder, walked_on}
 use Rattle.ild_path_holder.proofs.along.last_holder.Goals as goal
 
 pub loop-k-init : goal.loop-k-init

@@ -1,5 +1,5 @@
 use Rattle.std.proofs.Common.{◌∙◌}
-use Rattle.ild_path_hop.proofs.Leveling.{item_stands}
+use Rattle.ild_path_edit.proofs.Making.{item_stands}
 use Rattle.ild_path_hop.proofs.level.with_root.Goals as goal
 
 pub returns-in-Ok-block_of_edit-clause-made : goal.returns-in-Ok-block_of_edit-clause-made

@@ -4,6 +4,7 @@ use Rattle.std.proofs.lemmas.Iterator.Adapters.{YieldsList-from_vec}
 use Rattle.std.proofs.lemmas.Iterator.Consumers.{YieldsList-end, YieldsList-turn}
 use Rattle.std.proofs.lemmas.Option.{slice_get_within, slice_get_read}
 use Rattle.std.proofs.lemmas.Result.{err_from_is_err_and}
+use Rattle.ild_data.proofs.Places.{seen_rises}
 use Rattle.ild_data.specs.Data.{list, map as map_data, depth, items_depth, members_depth, members_list}
 use Rattle.ild_data.specs.Key.{value_at}
 use Rattle.ild_data.specs.Seen.{data_of}
@@ -26,7 +27,7 @@ use Rattle.ild_value.specs.Readings.{IsRefused}
 use Rattle.ild_value.proofs.AllOf.{all_of, all_next, all_step, all_whole}
 use Rattle.ild_value.proofs.Exact.{if_err}
 use Rattle.ild_value.proofs.Leaves.{any_means}
-use Rattle.ild_value.proofs.Entries.{only_depth, rises_seen}
+use Rattle.ild_value.proofs.Entries.{only_depth}
 use Rattle.ild_value.proofs.Taken.{found_depth, found_low, kept_first, kept_next}
 use Rattle.ild_value_shown.proofs.Picked.{number_low, picked, if_ok}
 use Rattle.ild_value.proofs.Shows.{read_item, read_pair, read_field, list_means, list_refused, map_means, map_refused, key_refused, key_read, struct_means, name_refused, field_refused, field_there, field_gone, field_missed, union_means, union_refused, many_refused, stranger_refused}
@@ -218,7 +219,7 @@ fields-returns-then-not-are_named-clause-err t c = name_refused c.args.acc.now c
 pub fields-loop-field-init : goal.fields-loop-field-init
 fields-loop-field-init t c = record {
   read = λ is_key tests. ap (λ os. Some (optionals_list os)) (sym c.new-vals.ensures);
-  rises = rises_seen c.into_vec-left.result.items c.into_vec-left.ensures.rises;
+  rises = seen_rises c.into_vec-left.result.items c.into_vec-left.ensures.rises;
   kept = kept_first c.args.def.now.fields c.into_vec-left.result.items c.args.entries c.into_vec-left.ensures.same;
 }
 

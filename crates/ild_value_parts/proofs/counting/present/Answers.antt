@@ -1,9 +1,9 @@
 use Rattle.std.proofs.Common.{suc, ◌+◌, ◌<◌, subst, [], length, drop, sym, ap, ◌∙◌, add-one}
+use Rattle.ild_data.proofs.Gets.{there_at, drop_past}
 use Rattle.ild_schema.specs.Value.{optionals_list}
 use Rattle.ild_script_meaning.specs.Reads.{present_fields}
 use Rattle.ild_schema.specs.ValueSeen.{value_of}
-use Rattle.ild_typed.proofs.FormOf.{got_below}
-use Rattle.ild_value_shown.proofs.Forms.{absent_next, drop_past, present_next, present_shown}
+use Rattle.ild_value_shown.proofs.Forms.{absent_next, present_next, present_shown}
 use Rattle.ild_value_parts.proofs.Lists.{fields_count, next_count, plus_none, present_most, stays_exact, zero_plus}
 use Rattle.ild_value_parts.proofs.counting.present.Goals as goal
 
@@ -19,7 +19,7 @@ pub loop-i-preserved : goal.loop-i-preserved
 loop-i-preserved c =
     let fs = c.args.fields.now in
     let os = optionals_list c.args.vals.now in
-    let f = got_below fs c.loop-i.i c.loop-i-test.true in
+    let f = there_at fs c.loop-i.i c.loop-i-test.true in
     let next = present_next [] fs os c.loop-i.i f.0 (value_of c.in-Some.field-0.now) f.1 c.in-Some.ensures in
     let rest = present_shown [] (drop (suc c.loop-i.i) fs) (drop (suc c.loop-i.i) os) in
     let adds = sym (ap (λ ds. c.loop-i.count + length ds) next) ∙ c.loop-i.invariant.1 in

@@ -1,11 +1,12 @@
 use Rattle.std.proofs.Common.{suc, ◌<◌, ◌++◌, [], ◌∷◌, length, map, drop, refl, sym, ap, ◌∙◌, subst, add-one, append_assoc, append-nil}
 use Rattle.std.proofs.lemmas.Option.{slice_get_read}
+use Rattle.ild_data.proofs.Gets.{drop_past}
 use Rattle.ild_data.specs.Data.{items_list, text}
 use Rattle.ild_data.specs.Seen.{data_of}
 use Rattle.ild_schema.specs.Value.{optionals_list}
 use Rattle.ild_schema.specs.ValueSeen.{value_of}
 use Rattle.ild_schema.specs.declared.def.Field.{Field}
-use Rattle.ild_value_shown.proofs.Forms.{absent_next, drop_past, present_next, present_shown}
+use Rattle.ild_value_shown.proofs.Forms.{absent_next, present_next, present_shown}
 use Rattle.ild_value_parts.specs.Lists.{named}
 use Rattle.ild_value_parts.proofs.Lists.{fields_named, named_entry}
 use Rattle.ild_value_parts.proofs.listed.fields.Goals as goal

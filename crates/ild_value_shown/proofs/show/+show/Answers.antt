@@ -3,6 +3,7 @@ use Rattle.std.specs.Option.{option_map_or}
 use Rattle.std.proofs.lemmas.List.{map-append, length-map}
 use Rattle.std.proofs.lemmas.Option.{slice_get_read}
 use Rattle.ild_schema.specs.declared.def.Field.{Field}
+use Rattle.ild_data.proofs.Gets.{drop_past}
 use Rattle.ild_data.specs.Data.{items_of, items_list, members_of, members_list, no_items}
 use Rattle.ild_data.specs.Key.{put}
 use Rattle.ild_data.specs.Seen.{data_of, pair_of}
@@ -13,7 +14,7 @@ use Rattle.ild_schema.specs.ValueSeen.{value_of, pair_of as value_pair}
 use Rattle.ild_typed.specs.Shown.{shown, shown_values, shown_pairs, shown_fields}
 use Rattle.ild_typed.specs.Slots.{element_of, fields_of}
 use Rattle.ild_typed.specs.Strings.{in_key_order}
-use Rattle.ild_value_shown.proofs.Forms.{made_none, made_more, made_all, shown_pair, values_shown, pairs_shown, fields_shown, present_shown, present_next, absent_next, field_height, fields_low, fields_are, drop_past}
+use Rattle.ild_value_shown.proofs.Forms.{made_none, made_more, made_all, shown_pair, values_shown, pairs_shown, fields_shown, present_shown, present_next, absent_next, field_height, fields_low, fields_are}
 use Rattle.ild_value_shown.proofs.Fronts.{front_less}
 use Rattle.ild_value_shown.proofs.Heights.{element_height, entry_height}
 use Rattle.ild_value_shown.proofs.Picked.{if_ok}

@@ -1,11 +1,11 @@
 use Rattle.std.proofs.Common.{arith, ◌≡◌, ◌<◌, ap, sym, subst, ◌∙◌, List, get_or, length, Some}
 use Rattle.std.specs.Prelude.{slice_get}
+use Rattle.ild_data.proofs.Gets.{got_at}
 use Rattle.ild_schema.specs.Copies.{base}
 use Rattle.ild_schema.specs.declared.def.Member.{Member}
 use Rattle.ild_schema.specs.declared.row.Row.{Row}
 use Rattle.ild_layer_parts.specs.declared.part.Part.{Part}
 use Rattle.ild_layer_parts.specs.Ready.{IsReady}
-use Rattle.ild_layer_parts.proofs.Lists.{got_at}
 use Rattle.ild_view_walk.proofs.Finding.{member_inlined, member_low, under_one, union_deep, union_opens, union_part}
 use Rattle.ild_view_walk.proofs.Inside.{member_piece}
 use Rattle.ild_view_walk.proofs.union.open_union.Goals as goal

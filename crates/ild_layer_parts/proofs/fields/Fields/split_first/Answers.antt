@@ -1,10 +1,10 @@
 use Rattle.std.proofs.Common.{◌≡◌, List, [], ◌∷◌, get_or, length, Some, refl, sym, ◌∙◌, ap, subst, arith}
 use Rattle.std.specs.Prelude.{slice_get}
+use Rattle.ild_data.proofs.Gets.{got_at}
 use Rattle.ild_schema.specs.declared.def.Field.{Field}
 use Rattle.ild_union.specs.Forms.{passes_over}
 use Rattle.ild_layer_parts.specs.declared.part.Part.{Part}
 use Rattle.ild_layer_parts.specs.Ready.{IsReady}
-use Rattle.ild_layer_parts.proofs.Lists.{got_at}
 use Rattle.ild_layer_parts.proofs.FieldSteps.{field_found, field_given, field_low, field_passed, field_there, plain_numbered}
 use Rattle.ild_layer_parts.proofs.fields.Fields.split_first.Goals as goal
 

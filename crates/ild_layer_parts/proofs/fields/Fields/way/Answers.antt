@@ -1,9 +1,9 @@
 use Rattle.std.proofs.Common.{◌≡◌, List, get_or, not, Some, refl, ◌∙◌, ap, arith}
 use Rattle.std.specs.Prelude.{slice_get}
+use Rattle.ild_data.proofs.Gets.{got_at}
 use Rattle.ild_schema.specs.declared.def.Field.{Field}
 use Rattle.ild_layer_places.specs.declared.way.Way.TheVariants as W
 use Rattle.ild_typed.specs.Spots.{field_steps}
-use Rattle.ild_layer_parts.proofs.Lists.{got_at}
 use Rattle.ild_layer_parts.proofs.FieldSteps.{implicit_told, way_left_out, way_there}
 use Rattle.ild_layer_parts.proofs.fields.Fields.way.Goals as goal
 

@@ -1,5 +1,6 @@
 use Rattle.std.proofs.Common.{◌≡◌, ℕ, List, get_or, Some, sym, ◌∙◌, ap, subst}
 use Rattle.std.specs.Prelude.{slice_get}
+use Rattle.ild_data.proofs.Gets.{got_at}
 use Rattle.ild_schema.specs.Copies.{base}
 use Rattle.ild_schema.specs.Slots.{form_of}
 use Rattle.ild_schema.specs.declared.def.EnumMember.{EnumMember}
@@ -7,7 +8,6 @@ use Rattle.ild_schema.specs.declared.def.TypeDef.TheVariants as D
 use Rattle.ild_view.proofs.Reading.{enum_is, enum_kept, enum_named, part_low}
 use Rattle.ild_view.specs.Body.{BodyStands}
 use Rattle.ild_view.specs.declared.body.Body.{Body}
-use Rattle.ild_view.proofs.Reading.{got_at}
 use Rattle.ild_view.proofs.view.View.enum_name.Goals as goal
 
 pub returns-in-Ok : goal.returns-in-Ok
