@@ -7,7 +7,7 @@ use std::alloc::AllocError;
 /// Why the blocks of a value are not there.
 #[derive(Drop)]
 pub enum BuildFault {
-    /// More keys of a HAMT than a bucket takes agree in all bits of their hashes (IPLD HashMap).
+    /// More keys of a HAMT than a bucket takes agree in all bits of their hashes that levels read (IPLD HashMap).
     Exhausted,
     /// A block would be longer than 4,194,304 bytes.
     Size,

@@ -243,9 +243,6 @@ slots-are p i (empty ∷ slots) all = slots-are p (i + 1) slots all.1
 slots-are p i (bucket es ∷ slots) all = let here = entries-are i es all.0.3 in let more = slots-are p (i + 1) slots all.1 in (λ k. here k ++ more k)
 slots-are p i (child id ∷ slots) all = let here = id-read id all.0.0 in let more = slots-are p (i + 1) slots all.1 in (λ k. element_by i None (here k) ++ more k)
 
-    same_items : (ds es : Items) → list ds ≡ list es → ds ≡ es
-    same_items ds es is = cc
-
 -- the steps of what was read are those of the node's slots
 pub node-steps : (p : HamtShape) (t : Data) (ones : List ℕ) (parts : Items) (slots : List TrieSlot) → pair_in t ≡ Some (bytes ones, list parts) → t ≡ node_data slots → IsNode p slots → elements_todo 0 (map_bits ones 0 (2 ^ p.width)) parts ≡ node_todo 0 slots
 node-steps p t ones parts slots pair is form =

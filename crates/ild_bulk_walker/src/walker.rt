@@ -239,7 +239,7 @@ impl Walker {
         Ok(())
     }
 
-    // TakesRow the next step, which gives an entry.
+    // Takes the next step, which gives an entry.
     fn take_row(&mut self) -> Result<Option<Row>, HamtFault>
         requires { GivesNext self.old }
         ensures takes { TakesRow self.old result self.new }

@@ -23,7 +23,7 @@ pub enum Flaw {
     Float,
     /// A type that is a copy of itself.
     CopyCycle,
-    /// Another advanced layout than `HAMT`.
+    /// Another advanced layout than `HAMT`, or one of no shape (`HAMT_wW_bB`).
     Advanced,
     /// More types or parts than there may be.
     Many,

@@ -67,7 +67,7 @@ impl Trail {
         }
     }
 
-    /// Whether the key is absent, and the entries with it have no HAMT: too many keys agree with it in all bits of their hashes.
+    /// Whether the key is absent, and the entries with it have no HAMT: too many keys agree with it in all bits of their hashes that levels read.
     pub fn exhausted(&self) -> bool
         ensures trie { (h : List ℕ → List ℕ) (p : HamtShape) (k : List ℕ) (slots : List TrieSlot) (es : List (List ℕ × Data)) (v : Data) → IsTrailOf h p k slots es self.now
             → result ≡ not (has_trie h p (put bytewise k v es)) }

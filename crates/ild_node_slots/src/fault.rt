@@ -9,7 +9,7 @@ use std::alloc::{AllocError, AllocFailed};
 /// Why a call that reads or writes the blocks of a HAMT is refused.
 #[derive(Drop)]
 pub enum HamtFault {
-    /// More keys than a bucket takes agree in all bits of their hashes.
+    /// More keys than a bucket takes agree in all bits of their hashes that levels read.
     Exhausted,
     /// The block under an id isn't held, or isn't the node that has to stand there.
     Block {

@@ -4,8 +4,8 @@ use ild_data::{BlockId, Octets};
 /// Why an edit at a place leaves no new root block.
 #[derive(Drop)]
 pub enum EditFault {
-    /// More keys of a HAMT than a bucket takes agree in all bits of their hashes with the one at which the part was to come: it has no
-    /// place there. Of a place that isn't exhausted, in a value that the store holds, it never comes.
+    /// More keys of a HAMT than a bucket takes agree in all bits of their hashes that levels read with the one at which the part was to
+    /// come: it has no place there. Of a place that isn't exhausted, in a value that the store holds, it never comes.
     Exhausted,
     /// The key of the entry that was to go isn't in its HAMT. Of a place in a value that the store holds it never comes.
     NoKey,

@@ -143,13 +143,6 @@ pub block_more : (block : List ℕ) (hops : List Hop) (hop : Hop) → block_behi
 block_more block [] hop = refl
 block_more block (g ∷ hops) hop = block_more (end_block block (trail_blocks g.trail)) hops hop
 
-  count : (gs : List Hop) → length (gs ++ hop ∷ []) ≡ suc (length gs)
-  count [] = refl
-  count (g ∷ gs) = ap suc (count gs)
-
-  many : (gs : List Hop) → length gs ≡ length (gs ++ hop ∷ []) - 1
-  many gs = let e = count gs in omega (arith, e)
-
 pub none_left : (root : View) (rows : List Row) (hops : List Hop) (room : ℕ) (t : Data) (f : Value) → hops ≡ [] → IsView root f → Front rows room (slot_of root) f t → room ≤ deepest → IsDataBehind rows root hops room (slot_of root) t f
 none_left root rows hops room t f none view front low = record {
   front = front;

@@ -80,7 +80,7 @@ impl<'b> Place<'b> {
     }
 
     /// Whether the HAMT at whose key a part is to come would have no trie with it: the key is new, and too many keys agree with it in
-    /// all bits of their hashes.
+    /// all bits of their hashes that levels read.
     pub fn exhausted(&self) -> bool
         ensures { Exhausts self.now.verb self.now.end result }
     {

@@ -14,7 +14,7 @@ pub enum Refusal {
     Delimiter,
     /// The value nests more than 96 levels.
     Depth,
-    /// More than three keys of a HAMT agree in all 32 bytes of their hashes.
+    /// More keys of a HAMT than a bucket takes agree in all bits of their hashes that levels read.
     Exhausted,
     /// A block of the value is longer than 4,194,304 bytes.
     Size,

@@ -22,7 +22,7 @@ pub enum No {
     Hole,
     /// The new value nests too deep.
     Depth,
-    /// Too many keys of a HAMT agree in their whole hash.
+    /// More keys of a HAMT than a bucket takes agree in all bits of their hashes that levels read.
     Exhausted,
     /// A block of the new value is longer than 4,194,304 bytes.
     Size,
