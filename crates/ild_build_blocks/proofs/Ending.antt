@@ -20,7 +20,7 @@ use Rattle.ild_typed.specs.Blocks.{nodes}
 use Rattle.ild_typed_places.specs.Places.{places_in}
 use Rattle.ild_bulk_places.proofs.Putting.{puts_leave}
 use Rattle.ild_build_blocks.specs.Builds.{BuildAnswer, Builds, HasBlocks, PutsSome}
-use Rattle.ild_build_blocks.specs.inside.Planned.{AreAlike, IsPlanned, Plans, StoppedBy}
+use Rattle.ild_build_blocks.specs.inside.Planned.{AreAlike, IsPlanned, IsPutFault, Plans, StoppedBy}
 use Rattle.ild_build_blocks.specs.declared.fault.BuildFault.{BuildFault}
 use Rattle.ild_build_blocks.specs.declared.fault.BuildFault.TheVariants as B
 use Rattle.ild_build_blocks.specs.declared.planned.Planned.{Planned}
@@ -42,6 +42,16 @@ told_if (Some a) (Some b) P t = t
 if_more : {A : Type 0} (o : Option A) (P Q : A → Type 0) → ((a : A) → P a → Q a) → IfTold o P → IfTold o Q
 if_more None P Q f t = tt
 if_more (Some a) P Q f t = f a t
+
+-- why puts end
+pub put_faults : (m n : Moment) (bs : List (List ℕ)) (e : HamtFault) → PutsAll m bs (Err e) n → IsPutFault e
+put_faults m n bs F.Store puts = tt
+put_faults m n bs (F.Clash id kept new) puts = tt
+put_faults m n bs F.Memory puts = tt
+put_faults m n bs F.Exhausted puts = absurd puts.answer
+put_faults m n bs (F.Block id why) puts = absurd puts.answer
+put_faults m n bs F.Size puts = absurd puts.answer
+put_faults m n bs F.NoKey puts = absurd puts.answer
 
 module _ (h : List ℕ → List ℕ) (rows : List Row) (slot : Slot) (v : Value) where
   steps : (m n : Moment) (bs : List (List ℕ)) (r : Result (Unit {0}) HamtFault) → AreAlike bs (nodes h rows slot v) → Follows [] bs → PutsAll m bs r n → PutsSome m (nodes h rows slot v) n

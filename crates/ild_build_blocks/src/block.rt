@@ -7,7 +7,7 @@ ghost use Rattle.ild_typed.specs.Fits.{Fits};
 ghost use Rattle.ild_typed.specs.Judged.{breaks_delimiter, has_hole};
 ghost use Rattle.ild_typed.specs.Typed.{Typed};
 ghost use Rattle.ild_build_blocks.specs.Builds.{Builds};
-ghost use Rattle.ild_build_blocks.specs.inside.Planned.{StoppedBy};
+ghost use Rattle.ild_build_blocks.specs.inside.Planned.{IsPutFault, StoppedBy};
 
 use crate::fault::BuildFault;
 use crate::plan::plan;
@@ -25,6 +25,7 @@ fn are_bytes(bytes: &[u8])
 
 // Why a put stopped.
 fn stopped_by(fault: HamtFault) -> BuildFault
+    requires { IsPutFault fault }
     ensures { StoppedBy fault result }
 {
     match fault {
@@ -34,7 +35,11 @@ fn stopped_by(fault: HamtFault) -> BuildFault
             are_bytes(new.as_slice());
             BuildFault::Clash { id, kept, new }
         }
-        _ => BuildFault::Memory,
+        HamtFault::Memory => BuildFault::Memory,
+        HamtFault::Exhausted => unreachable!(),
+        HamtFault::Block { .. } => unreachable!(),
+        HamtFault::Size => unreachable!(),
+        HamtFault::NoKey => unreachable!(),
     }
 }
 

@@ -15,10 +15,9 @@ ghost use Rattle.ild_build_entries.specs.Entries.{AddsEntry, AddsRoot, AreKeyedM
 ghost use Rattle.ild_build_entries.specs.Fine.{IsFine};
 
 use crate::nodes::Nodes;
-use ild_bulk::{KeyedMark, begin_entry, mark_of, plan_marked};
+use ild_bulk::{KeyedMark, PlanFault, begin_entry, mark_of, plan_marked};
 use ild_data::{HamtShape, KeyHash, LONGEST_BLOCK};
 use ild_emit::Emit;
-use ild_node::HamtFault;
 use std::alloc::{AllocError, Global};
 
 /// For each of many entries so many bytes are taken at once.
@@ -128,10 +127,10 @@ pub fn add_root(
             nodes.blocks.append(&mut blocks)?;
             add_root_map(out, shape, root.as_slice())
         }
-        Err(HamtFault::Exhausted) => {
+        Err(PlanFault::Exhausted) => {
             nodes.exhausted = true;
             Ok(())
         }
-        Err(_) => Err(AllocError),
+        Err(PlanFault::Memory) => Err(AllocError),
     }
 }

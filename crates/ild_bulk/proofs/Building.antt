@@ -17,8 +17,8 @@ use Rattle.ild_hamt_trie.proofs.Fold.{slot-many as slot-many_lem}
 use Rattle.ild_hamt_trie.proofs.Slots.{some_cons}
 use Rattle.ild_hamt_trie.proofs.Node.{node-slots, no_node as none_left}
 use Rattle.ild_node.specs.declared.hold.NewHold.TheVariants as N
-use Rattle.ild_node_slots.specs.declared.fault.HamtFault.{HamtFault}
-use Rattle.ild_node_slots.specs.declared.fault.HamtFault.TheVariants as F
+use Rattle.ild_bulk.specs.declared.fault.PlanFault.{PlanFault}
+use Rattle.ild_bulk.specs.declared.fault.PlanFault.TheVariants as F
 use Rattle.ild_node.specs.declared.hashed.HashedEntry.{HashedEntry}
 use Rattle.ild_node.specs.Hashed.{AreHashed}
 use Rattle.ild_node.specs.Rows.{AreRows}
@@ -146,15 +146,10 @@ no_node h p depth n es lt within is =
     ∙ all_some-at (map f (range_with_len 0 (2 ^ p.width))) n (omega (arith, length-map-range_with_len f 0 (2 ^ p.width), within)) (get_or-map-range_with_len f 0 (2 ^ p.width) n n None within (omega arith) ∙ is))
 
 -- a part that has no slot, or want of memory
-pub plans-stop : (h : List ℕ → List ℕ) (p : HamtShape) (depth : ℕ) (es : List (List ℕ × Data)) (n : ℕ) (e : HamtFault) (old new now more : List (List ℕ)) → depth < trie_levels p → n < 2 ^ p.width
+pub plans-stop : (h : List ℕ → List ℕ) (p : HamtShape) (depth : ℕ) (es : List (List ℕ × Data)) (n : ℕ) (e : PlanFault) (old new now more : List (List ℕ)) → depth < trie_levels p → n < 2 ^ p.width
     → (slots : List TrieSlot) (d : Draft) → PlansInto h p (trie_levels p - (depth + 1)) (depth + 1) (part (at_depth h p depth) es n) (Err e) slots d now more → PlansNode h p (trie_levels p - depth) depth es (Err e) old new
 plans-stop h p depth es n F.Exhausted old new now more lt within slots d plans = no_node h p depth n es lt within plans
 plans-stop h p depth es n F.Memory old new now more lt within slots d plans = tt
-plans-stop h p depth es n (F.Block id why) old new now more lt within slots d plans = absurd plans
-plans-stop h p depth es n F.Store old new now more lt within slots d plans = absurd plans
-plans-stop h p depth es n (F.Clash id kept other) old new now more lt within slots d plans = absurd plans
-plans-stop h p depth es n F.Size old new now more lt within slots d plans = absurd plans
-plans-stop h p depth es n F.NoKey old new now more lt within slots d plans = absurd plans
 
 pub plans-exhausted : (h : List ℕ → List ℕ) (p : HamtShape) (depth : ℕ) (es : List (List ℕ × Data)) → trie_levels p ≤ depth → node_of h p (trie_levels p - depth) depth es ≡ None
 plans-exhausted h p depth es le = let none : trie_levels p - depth ≡ 0 = omega arith in ap (λ n. node_of h p n depth es) none ∙ none_left h p depth es
@@ -187,15 +182,10 @@ slot-many h p left depth es old now new block id many plans named pushes =
           ∙ sym (none_or-many p.bucket (λ fs. planned h p left depth fs ++ block_of (node_of h p left depth fs)) es many)),
     )
 
-pub slot-stop : (h : List ℕ → List ℕ) (p : HamtShape) (left depth : ℕ) (es : List (List ℕ × Data)) (e : HamtFault) (old now new : List (List ℕ)) → p.bucket < length es
+pub slot-stop : (h : List ℕ → List ℕ) (p : HamtShape) (left depth : ℕ) (es : List (List ℕ × Data)) (e : PlanFault) (old now new : List (List ℕ)) → p.bucket < length es
     → PlansNode h p left depth es (Err e) old now → PlansSlot h p left depth es (Err e) old new
 slot-stop h p left depth es F.Exhausted old now new many plans = slot-many_lem p.bucket (node_of h p left depth) es many ∙ ap (option_map link_to) plans
 slot-stop h p left depth es F.Memory old now new many plans = tt
-slot-stop h p left depth es (F.Block id why) old now new many plans = absurd plans
-slot-stop h p left depth es F.Store old now new many plans = absurd plans
-slot-stop h p left depth es (F.Clash id kept other) old now new many plans = absurd plans
-slot-stop h p left depth es F.Size old now new many plans = absurd plans
-slot-stop h p left depth es F.NoKey old now new many plans = absurd plans
 
 -- ---- slots that are written
 
@@ -211,15 +201,10 @@ pub into-many : (h : List ℕ → List ℕ) (p : HamtShape) (left depth : ℕ) (
 into-many h p left depth es slots d old now new block id many plans named pushes written =
     let s = slot-many h p left depth es old now new block id many plans named pushes in (child id.0, s.0, s.1, written)
 
-pub into-stop : (h : List ℕ → List ℕ) (p : HamtShape) (left depth : ℕ) (es : List (List ℕ × Data)) (e : HamtFault) (slots : List TrieSlot) (d : Draft) (old now new : List (List ℕ)) → p.bucket < length es
+pub into-stop : (h : List ℕ → List ℕ) (p : HamtShape) (left depth : ℕ) (es : List (List ℕ × Data)) (e : PlanFault) (slots : List TrieSlot) (d : Draft) (old now new : List (List ℕ)) → p.bucket < length es
     → PlansNode h p left depth es (Err e) old now → PlansInto h p left depth es (Err e) slots d old new
 into-stop h p left depth es F.Exhausted slots d old now new many plans = slot-many_lem p.bucket (node_of h p left depth) es many ∙ ap (option_map link_to) plans
 into-stop h p left depth es F.Memory slots d old now new many plans = tt
-into-stop h p left depth es (F.Block id why) slots d old now new many plans = absurd plans
-into-stop h p left depth es F.Store slots d old now new many plans = absurd plans
-into-stop h p left depth es (F.Clash id kept other) slots d old now new many plans = absurd plans
-into-stop h p left depth es F.Size slots d old now new many plans = absurd plans
-into-stop h p left depth es F.NoKey slots d old now new many plans = absurd plans
 
 -- ---- indices that are passed over
 

@@ -17,6 +17,9 @@ use Rattle.ild_edges.specs.Store.{Moment}
 use Rattle.ild_node.specs.declared.row.Row.{Row}
 use Rattle.ild_node.specs.Rows.{row_seen, rows_seen, AreRows}
 use Rattle.ild_typed.proofs.NodeEntries.{less, true_of}
+use Rattle.ild_bulk.specs.Faults.{plan_fault}
+use Rattle.ild_bulk.specs.declared.fault.PlanFault.{PlanFault}
+use Rattle.ild_bulk.specs.declared.fault.PlanFault.TheVariants as P
 use Rattle.ild_bulk.specs.Planned.{PlansNode, planned}
 use Rattle.ild_bulk.specs.Build.{plan_of, HasTrie, HasShortTrie, HasLongTrie, Stops, Builds, any_long, is_long}
 use Rattle.ild_bulk.specs.Putting.{PutsAll}
@@ -54,15 +57,10 @@ pub no-trie : (h : List ℕ → List ℕ) (p : HamtShape) (es fs : List (List �
 no-trie h p es fs same rows none = trie-rows h p es rows ∙ ap (node_of h p (trie_levels p - 0) 0) (sym same) ∙ none
 
 -- a plan that ended with a fault
-pub plan-stopped : (h : List ℕ → List ℕ) (p : HamtShape) (es fs : List (List ℕ × Data)) (e : HamtFault) (old new : List (List ℕ)) (m : Moment) → fs ≡ es → AreRows es → PlansNode h p (trie_levels p - 0) 0 fs (Err e) old new
-    → Builds h p es m (Err e) m
-plan-stopped h p es fs F.Exhausted old new m same rows plans = (no-trie h p es fs same rows plans, refl)
-plan-stopped h p es fs F.Memory old new m same rows plans = inl refl
-plan-stopped h p es fs (F.Block id why) old new m same rows plans = absurd plans
-plan-stopped h p es fs F.Store old new m same rows plans = absurd plans
-plan-stopped h p es fs (F.Clash id kept other) old new m same rows plans = absurd plans
-plan-stopped h p es fs F.Size old new m same rows plans = absurd plans
-plan-stopped h p es fs F.NoKey old new m same rows plans = absurd plans
+pub plan-stopped : (h : List ℕ → List ℕ) (p : HamtShape) (es fs : List (List ℕ × Data)) (e : PlanFault) (old new : List (List ℕ)) (m : Moment) → fs ≡ es → AreRows es → PlansNode h p (trie_levels p - 0) 0 fs (Err e) old new
+    → Builds h p es m (Err (plan_fault e)) m
+plan-stopped h p es fs P.Exhausted old new m same rows plans = (no-trie h p es fs same rows plans, refl)
+plan-stopped h p es fs P.Memory old new m same rows plans = inl refl
 
 pub plan-is : (h : List ℕ → List ℕ) (p : HamtShape) (es fs : List (List ℕ × Data)) (root : List ℕ) (old new : List (List ℕ)) → fs ≡ es → old ≡ [] → PlansNode h p (trie_levels p - 0) 0 fs (Ok root) old new → new ≡ plan_of h p es
 plan-is h p es fs root old new same none plans =

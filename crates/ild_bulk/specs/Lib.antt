@@ -1,4 +1,5 @@
 pub mod Keyed
+pub mod Faults
 pub mod Planned
 pub mod Putting
 pub mod Children

@@ -10,6 +10,7 @@ ghost use Rattle.ild_bulk.specs.Children.{AddsLinked};
 ghost use Rattle.ild_bulk.specs.Planned.{PlansNode};
 
 use crate::entries::entries_of;
+use crate::fault::PlanFault;
 use crate::plan::plan_marked;
 use crate::put::put_all;
 use ild_data::{HamtShape, KeyHash, LONGEST_BLOCK, NamedBlock, Octets};
@@ -42,7 +43,7 @@ pub fn plan_rows<H: KeyHash>(
     entries: &Rows,
     keys: &H,
     blocks: &mut Vec<NamedBlock>,
-) -> Result<Octets, HamtFault>
+) -> Result<Octets, PlanFault>
     ensures rows { AreRows entries.now }
     ensures plans { PlansNode H.hash_of shape (trie_levels shape - 0) 0 entries.now result blocks.old.items blocks.new.items }
 {

@@ -3,6 +3,7 @@
 
 mod build;
 mod entries;
+mod fault;
 mod laws;
 mod marked;
 mod plan;
@@ -10,6 +11,7 @@ mod put;
 
 pub use build::{any_long, from_entries, is_long, plan_rows};
 pub use entries::{KeyedMark, Mark, begin_entry, mark_of};
+pub use fault::PlanFault;
 pub use laws::{children_first, plan_is_of_nodes};
 pub use marked::Marked;
 pub use plan::{plan_keyed, plan_marked};

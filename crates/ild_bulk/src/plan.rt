@@ -13,9 +13,10 @@ ghost use Rattle.ild_bulk.specs.Keyed.{AreBare, AreEmpty, AreKeyed, AreMarked, H
 ghost use Rattle.ild_bulk.specs.Planned.{PlansInto, PlansNode, PlansSlot};
 
 use crate::entries::{BorrowedMark, entries_with, pieces};
+use crate::fault::PlanFault;
 use crate::marked::Marked;
 use ild_data::{HamtShape, NamedBlock, Octets};
-use ild_node::{Draft, HamtFault, HashedEntry, Keyed, NewHold, Rows, has_level, index_of};
+use ild_node::{Draft, HashedEntry, Keyed, NewHold, Rows, has_level, index_of};
 use std::alloc::{AllocError, Global};
 
 /// So many entries at most are looked through for each index that they have.
@@ -207,7 +208,7 @@ pub fn plan_marked<M: Marked>(
     bytes: &[u8],
     marks: &[M],
     blocks: &mut Vec<NamedBlock>,
-) -> Result<Octets, HamtFault>
+) -> Result<Octets, PlanFault>
     ensures { (h : List ℕ → List ℕ) (es : List (List ℕ × Data)) → AreMarked h bytes.now es (map M.mark_seen marks.now) → AreRows es
         → PlansNode h shape (trie_levels shape - 0) 0 es result blocks.old.items blocks.new.items }
 {
@@ -229,7 +230,7 @@ fn plan_marks<'r>(
     depth: u32,
     spare: &mut Vec<Parts<'r>>,
     blocks: &mut Vec<NamedBlock>,
-) -> Result<Octets, HamtFault>
+) -> Result<Octets, PlanFault>
     requires depth { depth < trie_levels shape }
     requires many { length parts.now ≡ 2 ^ shape.width }
     ensures { (h : List ℕ → List ℕ) (es : List (List ℕ × Data)) → HasMarks h shape depth bytes.now es parts.now → AreRows es
@@ -274,12 +275,12 @@ pub(crate) fn plan_node<'r>(
     depth: u32,
     spare: &mut Vec<Parts<'r>>,
     blocks: &mut Vec<NamedBlock>,
-) -> Result<Octets, HamtFault>
+) -> Result<Octets, PlanFault>
     ensures { (h : List ℕ → List ℕ) (es : List (List ℕ × Data)) → AreHashed h es entries.now → AreRows es
         → PlansNode h shape (trie_levels shape - depth) depth es result blocks.old.items blocks.new.items }
 {
     if !has_level(shape, depth as usize) {
-        return Err(HamtFault::Exhausted);
+        return Err(PlanFault::Exhausted);
     }
     if entries.len() <= FEW {
         return plan_few(alloc, shape, entries, depth, spare, blocks);
@@ -296,7 +297,7 @@ fn plan_many<'r>(
     depth: u32,
     spare: &mut Vec<Parts<'r>>,
     blocks: &mut Vec<NamedBlock>,
-) -> Result<Octets, HamtFault>
+) -> Result<Octets, PlanFault>
     requires { depth < trie_levels shape }
     ensures { (h : List ℕ → List ℕ) (es : List (List ℕ × Data)) → AreHashed h es entries.now → AreRows es
         → PlansNode h shape (trie_levels shape - depth) depth es result blocks.old.items blocks.new.items }
@@ -325,7 +326,7 @@ pub(crate) fn plan_parts<'r>(
     room: usize,
     spare: &mut Vec<Parts<'r>>,
     blocks: &mut Vec<NamedBlock>,
-) -> Result<Octets, HamtFault>
+) -> Result<Octets, PlanFault>
     requires depth { depth < trie_levels shape }
     requires many { length parts.now ≡ 2 ^ shape.width }
     ensures { (h : List ℕ → List ℕ) (es : List (List ℕ × Data)) → HasParts h shape depth es parts.now → AreRows es
@@ -356,7 +357,7 @@ fn plan_few<'r>(
     depth: u32,
     spare: &mut Vec<Parts<'r>>,
     blocks: &mut Vec<NamedBlock>,
-) -> Result<Octets, HamtFault>
+) -> Result<Octets, PlanFault>
     requires { depth < trie_levels shape }
     ensures { (h : List ℕ → List ℕ) (es : List (List ℕ × Data)) → AreHashed h es entries.now → AreRows es
         → PlansNode h shape (trie_levels shape - depth) depth es result blocks.old.items blocks.new.items }
@@ -392,7 +393,7 @@ fn plan_part<'r>(
     spare: &mut Vec<Parts<'r>>,
     draft: &mut Draft,
     blocks: &mut Vec<NamedBlock>,
-) -> Result<(), HamtFault>
+) -> Result<(), PlanFault>
     requires { i < 2 ^ shape.width }
     ensures { (h : List ℕ → List ℕ) (es : List (List ℕ × Data)) → AreHashed h es entries.now → AreRows es → (slots : List TrieSlot) → HasWritten shape draft.old slots → length slots ≡ i
         → PlansInto h shape (trie_levels shape - depth) depth es result slots draft.new blocks.old.items blocks.new.items }
@@ -418,7 +419,7 @@ fn plan_child<'r>(
     spare: &mut Vec<Parts<'r>>,
     draft: &mut Draft,
     blocks: &mut Vec<NamedBlock>,
-) -> Result<(), HamtFault>
+) -> Result<(), PlanFault>
     requires many { shape.bucket < length entries.now }
     requires slot { i < 2 ^ shape.width }
     ensures { (h : List ℕ → List ℕ) (es : List (List ℕ × Data)) → AreHashed h es entries.now → AreRows es → (slots : List TrieSlot) → HasWritten shape draft.old slots → length slots ≡ i
@@ -437,7 +438,7 @@ fn plan_rows(
     rows: &[Keyed<'_>],
     depth: u32,
     blocks: &mut Vec<NamedBlock>,
-) -> Result<Octets, HamtFault>
+) -> Result<Octets, PlanFault>
     requires { AreRows (keyed_rows rows.now) }
     ensures { (h : List ℕ → List ℕ) → AreKeyed h rows.now → PlansNode h shape (trie_levels shape - depth) depth (keyed_rows rows.now) result blocks.old.items blocks.new.items }
 {
@@ -456,7 +457,7 @@ pub fn plan_keyed(
     rows: &[Keyed<'_>],
     depth: u32,
     blocks: &mut Vec<NamedBlock>,
-) -> Result<Option<NewHold>, HamtFault>
+) -> Result<Option<NewHold>, PlanFault>
     requires { AreRows (keyed_rows rows.now) }
     ensures plans { (h : List ℕ → List ℕ) → AreKeyed h rows.now → PlansSlot h shape (trie_levels shape - depth) depth (keyed_rows rows.now) result blocks.old.items blocks.new.items }
     ensures filled { IfOk result (IsFilledSlot shape) }

@@ -18,7 +18,10 @@ use Rattle.ild_node_slots.specs.declared.fault.HamtFault.{HamtFault}
 use Rattle.ild_node_slots.specs.declared.fault.HamtFault.TheVariants as F
 use Rattle.ild_bulk.specs.Build.{is_long, any_long}
 use Rattle.ild_bulk.specs.Children.{AddsLinked}
+use Rattle.ild_bulk.specs.Faults.{plan_fault}
 use Rattle.ild_bulk.specs.Planned.{PlansSlot}
+use Rattle.ild_bulk.specs.declared.fault.PlanFault.{PlanFault}
+use Rattle.ild_bulk.specs.declared.fault.PlanFault.TheVariants as P
 use Rattle.ild_edges.specs.Gained.{CameFrom}
 use Rattle.ild_edges.proofs.Among.{IsIn-contains, IsIn-of}
 use Rattle.ild_bulk.specs.Putting.{PutsAll, StopsAfter}
@@ -160,13 +163,8 @@ removes-along p k es bs m (Err (F.Clash id kept new)) n some is = (some, is)
 -- ---- the end of a trail
 
 -- no slot is planned there
-pub slot-stopped : (p : HamtShape) (h : List ℕ → List ℕ) (k : List ℕ) (v : Data) (bs : List (List ℕ)) (last : List TrieSlot) (depth : ℕ) (rows : List (List ℕ × Data)) (e : HamtFault) (old plan : List (List ℕ)) (m : Moment)
+pub slot-stopped : (p : HamtShape) (h : List ℕ → List ℕ) (k : List ℕ) (v : Data) (bs : List (List ℕ)) (last : List TrieSlot) (depth : ℕ) (rows : List (List ℕ × Data)) (e : PlanFault) (old plan : List (List ℕ)) (m : Moment)
     → IsInOrder (entries_at_end h p k bs last) → length (entries_at_end h p k bs last) ≤ p.bucket → depth ≡ length bs + 1 → rows ≡ put bytewise k v (entries_at_end h p k bs last)
-    → PlansSlot h p (trie_levels p - depth) depth rows (Err e) old plan → SetsAlong p bs (is_full_at_end h p k bs last) m (Err e) m
-slot-stopped p h k v bs last depth rows F.Exhausted old plan m order small deep same plans = edits-none p bs (is_full_at_end h p k bs last) m (Err F.Exhausted) (full-at-end p h k v bs last depth rows order small deep same plans, refl)
-slot-stopped p h k v bs last depth rows F.Memory old plan m order small deep same plans = edits-none p bs (is_full_at_end h p k bs last) m (Err F.Memory) (inl refl)
-slot-stopped p h k v bs last depth rows F.NoKey old plan m order small deep same plans = absurd plans
-slot-stopped p h k v bs last depth rows F.Size old plan m order small deep same plans = absurd plans
-slot-stopped p h k v bs last depth rows (F.Block id why) old plan m order small deep same plans = absurd plans
-slot-stopped p h k v bs last depth rows F.Store old plan m order small deep same plans = absurd plans
-slot-stopped p h k v bs last depth rows (F.Clash id kept new) old plan m order small deep same plans = absurd plans
+    → PlansSlot h p (trie_levels p - depth) depth rows (Err e) old plan → SetsAlong p bs (is_full_at_end h p k bs last) m (Err (plan_fault e)) m
+slot-stopped p h k v bs last depth rows P.Exhausted old plan m order small deep same plans = edits-none p bs (is_full_at_end h p k bs last) m (Err F.Exhausted) (full-at-end p h k v bs last depth rows order small deep same plans, refl)
+slot-stopped p h k v bs last depth rows P.Memory old plan m order small deep same plans = edits-none p bs (is_full_at_end h p k bs last) m (Err F.Memory) (inl refl)

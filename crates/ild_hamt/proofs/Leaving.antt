@@ -17,6 +17,9 @@ use Rattle.ild_hamt_trie.proofs.Fold.{slot-few}
 use Rattle.ild_hamt_trie.proofs.Parts.{same_by_find, same_key, key_itself, in_order-put, in_order-without, find-put_at, find-without}
 use Rattle.ild_cbor.specs.declared.node.Node.{Node}
 use Rattle.ild_edges.specs.Store.{Moment}
+use Rattle.ild_bulk.specs.Faults.{plan_fault}
+use Rattle.ild_bulk.specs.declared.fault.PlanFault.{PlanFault}
+use Rattle.ild_bulk.specs.declared.fault.PlanFault.TheVariants as P
 use Rattle.ild_bulk.specs.Planned.{PlansSlot, planned, slot_plan}
 use Rattle.ild_node.specs.NewSlots.{slot_seen}
 use Rattle.ild_node_slots.specs.Views.{HasEntries, ValueIn, bucket_node}
@@ -85,21 +88,16 @@ end-state p h k v slots es rows t o depth old plan trail is deep none plans =
     }
 
 -- and where it has none
-pub end-stopped : (p : HamtShape) (h : List ℕ → List ℕ) (k : List ℕ) (v : Data) (slots : List TrieSlot) (es rows fs : List (List ℕ × Data)) (t : Trail) (e : HamtFault) (depth : ℕ) (old plan : List (List ℕ)) (m : Moment) → IsTrailOf h p k slots es t
+pub end-stopped : (p : HamtShape) (h : List ℕ → List ℕ) (k : List ℕ) (v : Data) (slots : List TrieSlot) (es rows fs : List (List ℕ × Data)) (t : Trail) (e : PlanFault) (depth : ℕ) (old plan : List (List ℕ)) (m : Moment) → IsTrailOf h p k slots es t
     → rows ≡ put bytewise k v (along h p k (length (trail_blocks t) + 1) 0 es) → depth ≡ length (trail_blocks t) + 1 → is_some (node_of h p (trie_levels p) 0 (put bytewise k v es)) ≡ true
-    → PlansSlot h p (trie_levels p - depth) depth rows (Err e) old plan → Rewrites h p k fs m (Err e) m
-end-stopped p h k v slots es rows fs t F.Exhausted depth old plan m trail is deep room plans =
+    → PlansSlot h p (trie_levels p - depth) depth rows (Err e) old plan → Rewrites h p k fs m (Err (plan_fault e)) m
+end-stopped p h k v slots es rows fs t P.Exhausted depth old plan m trail is deep room plans =
     let n : ℕ = length (trail_blocks t) in
     let none : slot_of p.bucket (node_of h p (trie_levels p - (n + 1)) (n + 1)) (put bytewise k v (along h p k (n + 1) 0 es)) ≡ None =
     (λ i. slot_of p.bucket (node_of h p (trie_levels p - (sym deep i)) (sym deep i)) (sym is i)) ∙ plans in
     let full : t.exhausted ≡ false = full-is h p k slots es v t trail ∙ ap not room in
     absurd (false≢true (sym (ap is_some none) ∙ has-room h p k slots es v t trail full))
-end-stopped p h k v slots es rows fs t F.Memory depth old plan m trail is deep room plans = inl refl
-end-stopped p h k v slots es rows fs t F.NoKey depth old plan m trail is deep room plans = absurd plans
-end-stopped p h k v slots es rows fs t F.Size depth old plan m trail is deep room plans = absurd plans
-end-stopped p h k v slots es rows fs t (F.Block id why) depth old plan m trail is deep room plans = absurd plans
-end-stopped p h k v slots es rows fs t F.Store depth old plan m trail is deep room plans = absurd plans
-end-stopped p h k v slots es rows fs t (F.Clash id kept new) depth old plan m trail is deep room plans = absurd plans
+end-stopped p h k v slots es rows fs t P.Memory depth old plan m trail is deep room plans = inl refl
 
 -- the bottom of a removal
 pub rest-state : (p : HamtShape) (h : List ℕ → List ℕ) (k : List ℕ) (slots : List TrieSlot) (es rows : List (List ℕ × Data)) (t : Trail) (s : TrieSlot) (plan : List (List ℕ)) → IsTrailOf h p k slots es t

@@ -5,18 +5,20 @@ use Rattle.ild_edges.specs.Store.{Moment, Later}
 use Rattle.ild_edges.proofs.Later.{Later-refl}
 use Rattle.ild_node_slots.specs.declared.fault.HamtFault.{HamtFault}
 use Rattle.ild_node_slots.specs.declared.fault.HamtFault.TheVariants as F
+use Rattle.ild_bulk.specs.Faults.{plan_fault}
 use Rattle.ild_bulk.specs.Putting.{PutsAll}
+use Rattle.ild_bulk.specs.declared.fault.PlanFault.{PlanFault}
+use Rattle.ild_bulk.specs.declared.fault.PlanFault.TheVariants as P
 use Rattle.ild_hamt_climb.specs.Planning.{PutsWay}
-use Rattle.ild_hamt.specs.Edits.{CausedBy, FaultCause, IsPlanFault}
+use Rattle.ild_hamt.specs.Edits.{CausedBy, FaultCause}
 
-pub caused-none : (m : Moment) (e : HamtFault) → IsPlanFault e → CausedBy m (Err e) m
-caused-none m F.Exhausted is = record { cause = tt; later = Later-refl m }
-caused-none m F.Memory is = record { cause = tt; later = Later-refl m }
-caused-none m F.NoKey is = absurd is
-caused-none m F.Size is = absurd is
-caused-none m F.Store is = absurd is
-caused-none m (F.Block id why) is = absurd is
-caused-none m (F.Clash id kept new) is = absurd is
+pub caused-memory : (m : Moment) → CausedBy m (Err F.Memory) m
+caused-memory m = record { cause = tt; later = Later-refl m }
+
+-- nothing was planned
+pub caused-plan : (m : Moment) (e : PlanFault) → CausedBy m (Err (plan_fault e)) m
+caused-plan m P.Exhausted = record { cause = tt; later = Later-refl m }
+caused-plan m P.Memory = caused-memory m
 
 pub caused-key : (m : Moment) → CausedBy m (Err F.NoKey) m
 caused-key m = record { cause = tt; later = Later-refl m }

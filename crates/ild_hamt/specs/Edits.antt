@@ -82,12 +82,6 @@ pub record EditsFrom (p : HamtShape) (bs : List (List ℕ)) (s : TrieSlot) (begu
 
 -- ---- whatever the trail, the root and the store are
 
--- what planning may answer in place of a plan
-abbrev pub IsPlanFault : HamtFault → Type 0
-IsPlanFault Exhausted = Unit {0}
-IsPlanFault Memory = Unit {0}
-IsPlanFault e = ⊥
-
 -- the store failed; or it holds a block under the id of another
 abbrev pub FaultCause : Moment → HamtFault → Moment → Type 0
 FaultCause m Store n = Rose m.faults n.faults

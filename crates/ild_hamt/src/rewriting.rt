@@ -1,17 +1,17 @@
 //! The new way of a key, planned whole and then put.
-ghost use Rattle.std.specs.Prelude.{◌≡◌, ◌-◌, ℕ, List, IfErr, IfOk};
+ghost use Rattle.std.specs.Prelude.{◌≡◌, ◌-◌, ℕ, List, IfOk};
 ghost use Rattle.ild_data.specs.ByteOrder.{without};
 ghost use Rattle.ild_data.specs.TrieShape.{trie_levels};
 ghost use Rattle.ild_node.specs.NewSlots.{IsFilledSlot, slot_seen};
 ghost use Rattle.ild_bulk.specs.Planned.{PlansSlot};
 ghost use Rattle.ild_hamt.specs.Descending.{trail_shape};
-ghost use Rattle.ild_hamt.specs.Edits.{CausedBy, IsPlanFault};
+ghost use Rattle.ild_hamt.specs.Edits.{CausedBy};
 ghost use Rattle.ild_hamt.specs.Ends.{hashes_of};
 ghost use Rattle.ild_hamt.specs.Rewriting.{EditsTrail, RewritesTrail};
 
 use crate::hashing::keyed;
 use crate::trail::Trail;
-use ild_bulk::plan_keyed;
+use ild_bulk::{PlanFault, plan_keyed};
 use ild_data::{NamedBlock, Octets};
 use ild_edges::Store;
 use ild_hamt_climb::{climb, few_slot, put_way};
@@ -26,9 +26,8 @@ pub(crate) fn slot_of(
     trail: &Trail,
     depth: u32,
     plan: &mut Vec<NamedBlock>,
-) -> Result<Option<NewHold>, HamtFault>
+) -> Result<Option<NewHold>, PlanFault>
     ensures filled { IfOk result (IsFilledSlot (trail_shape trail.now)) }
-    ensures fault { IfErr result IsPlanFault }
     ensures plans { (h : List ℕ → List ℕ) → trail.now.hash ≡ h trail.now.key → trail.now.others.items ≡ hashes_of h (without trail.now.key rows)
         → PlansSlot h (trail_shape trail.now) (trie_levels (trail_shape trail.now) - depth) depth rows result plan.old.items plan.new.items }
 {
@@ -42,12 +41,7 @@ pub(crate) fn slot_of(
         &trail.hash,
         &trail.others,
     )?;
-    // Planning asks no store: there is no other fault.
-    match plan_keyed(alloc, trail.shape, &keyed, depth, plan) {
-        Ok(slot) => Ok(slot),
-        Err(HamtFault::Exhausted) => Err(HamtFault::Exhausted),
-        Err(_) => Err(HamtFault::Memory),
-    }
+    plan_keyed(alloc, trail.shape, &keyed, depth, plan)
 }
 
 /// The new root node, from the new slot at the end of a way. The other nodes on the way are put behind those that are planned,

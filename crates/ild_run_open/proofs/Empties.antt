@@ -1,10 +1,11 @@
 -- Empty values: they fit, and have one block.
 use Rattle.std.proofs.Common.{◌≡◌, ℕ, suc, zero, ◌≤◌, ◌+◌, ◌^◌, List, [], ◌∷◌, ◌++◌, Bool, true, false, Option, Some, None, refl, sym, ap, ◌∙◌, subst, inl, arith}
-use Rattle.std.specs.Prelude.{IsSomeAnd, is_some, cond, option_and_then}
+use Rattle.std.specs.Prelude.{Contains, IsSomeAnd, is_some, cond, option_and_then}
 use Rattle.std.specs.List.{flat_map, range_with_len}
 use Rattle.std.specs.Option.{option_map_or}
 use Rattle.std.proofs.lemmas.Bool.{le-leb}
 use Rattle.std.proofs.lemmas.Option.{same_Some, none-some}
+use Rattle.ild_data.proofs.AllOf.{all_contained}
 use Rattle.ild_data.specs.Data.{Data}
 use Rattle.ild_data.specs.Spell.{spell}
 use Rattle.ild_data.specs.Trie.{trie, node_of}
@@ -64,7 +65,7 @@ module _ (P : Value → Type 0) (o : Option TypeDef) (lists : (elem : Slot) (at 
   in_form (D.Enum m) v is e = absurd (none-some v e)
   in_form (D.Copy target) v is e = absurd (none-some v e)
 
-  by_form : (p : Option TypeDef) → o ≡ p → (v : Value) → option_and_then empty_in p ≡ Some v → P v
+  pub by_form : (p : Option TypeDef) → o ≡ p → (v : Value) → option_and_then empty_in p ≡ Some v → P v
   by_form None is v e = absurd (none-some v e)
   by_form (Some d) is v e = in_form d v is e
 
@@ -117,14 +118,22 @@ no_nodes h rows ty v e = by_form (λ w. nodes h rows (plainly ty) w ≡ []) (for
     (λ key key_at value at form is. subst (λ o. option_map_or (λ u. hamt_nodes h o (Some []) ++ []) (element_of o) [] ≡ []) (sym is) (map_nodes h key key_at value at form))
     (form_of rows (plainly ty)) refl v e
 
+pub nodes_gone : (h : List ℕ → List ℕ) (rows : List Row) (ty : TypeNo) (v : Value) (P : List (List ℕ) → Type 0) → IsEmpty rows ty v → P (nodes h rows (plainly ty) v) → P []
+nodes_gone h rows ty v P e p = subst P (no_nodes h rows ty v e) p
+
 -- ---- its one block
 
 pub one_block : (h : List ℕ → List ℕ) (rows : List Row) (ty : TypeNo) (v : Value) (d : Data) → IsEmpty rows ty v → blocks_of bare h rows ty v d ≡ spell d ∷ []
 one_block h rows ty v d e = ap (λ ns. spell d ∷ (ns ++ [])) (no_nodes h rows ty v e)
 
-pub nodes_gone : (h : List ℕ → List ℕ) (rows : List Row) (ty : TypeNo) (v : Value) (P : List (List ℕ) → Type 0) → IsEmpty rows ty v → P (nodes h rows (plainly ty) v) → P []
-nodes_gone h rows ty v P e p = subst P (no_nodes h rows ty v e) p
-
 pub empty_block : (h : List ℕ → List ℕ) (rows : List Row) (ty : TypeNo) (v : Value) (d : Data) → IsEmpty rows ty v → represented (whole h) rows (plainly ty) v ≡ Some d → empty_blocks h rows ty ≡ spell d ∷ []
 empty_block h rows ty v d e rep =
     ap (λ o. option_map_or (value_blocks h rows ty) o []) e ∙ (ap (λ o. option_map_or (blocks_of bare h rows ty v) o []) rep ∙ one_block h rows ty v d e)
+
+-- ---- what is among no blocks, and among one
+
+pub not_in_none : (b : List ℕ) → Contains [] b → ⊥
+not_in_none b among = all_contained (λ (c : List ℕ). ⊥) [] b tt among
+
+pub is_one : (block b : List ℕ) → Contains (block ∷ []) b → block ≡ b
+is_one block b among = all_contained (λ c. block ≡ c) (block ∷ []) b (refl, tt) among

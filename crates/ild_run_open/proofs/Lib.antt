@@ -1,4 +1,6 @@
 mod Empties
+mod NoEntries
 mod Putting
 mod Rooted
+mod Short
 mod Unrefused

@@ -1,9 +1,8 @@
 -- Putting the block of an empty value.
-use Rattle.std.proofs.Common.{◌≡◌, ◌⊎◌, ℕ, ◌+◌, ◌≤◌, List, [], ◌∷◌, Option, Some, Result, Ok, Err, sym, ap, ◌∙◌, subst, inl, inr, arith}
+use Rattle.std.proofs.Common.{◌≡◌, ℕ, ◌+◌, ◌≤◌, List, [], ◌∷◌, Option, Some, Result, Ok, Err, sym, ap, ◌∙◌, subst, arith}
 use Rattle.std.specs.Prelude.{length, Contains}
 use Rattle.std.specs.List.{AllByRecursion}
-use Rattle.std.proofs.lemmas.List.Elements.{Contains-push_cases}
-use Rattle.ild_build_blocks.specs.Builds.{Builds, BuildAnswer}
+use Rattle.ild_build_blocks.specs.Builds.{BuildAnswer, Builds, IsBuilt}
 use Rattle.ild_build_blocks.specs.declared.fault.BuildFault.{BuildFault}
 use Rattle.ild_build_blocks.specs.declared.fault.BuildFault.TheVariants as B
 use Rattle.ild_data.specs.Limits.{longest_block}
@@ -26,25 +25,17 @@ use Rattle.ild_view_doc.specs.Docs.{IsDoc, block_in}
 use Rattle.ild_view_doc.specs.declared.doc.Doc.{Doc}
 use Rattle.ild_run_open.specs.Empty.{IsEmpty, empty_blocks}
 use Rattle.ild_run_open.specs.Starts.{KeepsEmpty, Starts, EmptyStops}
-use Rattle.ild_run_open.specs.inside.Steps.{built_fault, put_fault, BuildsEmpty, BuildEmptyAnswer, PutsEmpty, PutEmptyAnswer}
+use Rattle.ild_run_open.specs.inside.Steps.{BuildEmptyAnswer, BuildsEmpty, IsEmptyBlock, PutEmptyAnswer, PutsEmpty, TellsBuilt, put_fault}
 use Rattle.ild_run_open.specs.declared.start.Start.TheVariants as S
 use Rattle.ild_run_open.specs.declared.start.StartFault.{StartFault}
 use Rattle.ild_run_open.specs.declared.start.StartFault.TheVariants as F
-use Rattle.ild_run_open.proofs.Empties.{fits, one_block, nodes_gone, empty_block}
-
-not_in_none : (b : List ℕ) → Contains [] b → ⊥
-not_in_none b among = let less = among.1 in absurd (omega (arith, less))
+use Rattle.ild_run_open.proofs.Empties.{empty_block, fits, is_one, nodes_gone, not_in_none, one_block}
 
 -- ---- the block
 
--- what building answers, as what is told of it
-abbrev pub block_result : Result (List ℕ) BuildFault → Result (List ℕ) StartFault
-block_result (Ok b) = Ok b
-block_result (Err f) = Err (built_fault f)
-
 module _ (h : List ℕ → List ℕ) (rows : List Row) (ty : TypeNo) (v : Value) (empty : IsEmpty rows ty v) (m n : Moment) where
-  answered : (result : Result (List ℕ) BuildFault) → BuildAnswer h rows (plainly ty) v m result n → BuildEmptyAnswer h rows ty v m (block_result result) n
-  answered (Ok b) built = record {
+  its_block : (b : List ℕ) → IsBuilt h rows (plainly ty) v m b n → IsEmptyBlock h rows ty v b
+  its_block b built = record {
     tree = built.has.tree;
     storable = record {
       fits = fits rows ty v empty;
@@ -53,23 +44,25 @@ module _ (h : List ℕ → List ℕ) (rows : List Row) (ty : TypeNo) (v : Value)
     };
     spelled = built.spelled;
   }
-  answered (Err B.Store) built = built.0
-  answered (Err B.Exhausted) built = tt
-  answered (Err B.Size) built = tt
-  answered (Err (B.Clash id kept new)) built = tt
-  answered (Err B.Memory) built = tt
 
-  pub builds : (result : Result (List ℕ) BuildFault) → Builds h rows (plainly ty) v m result n → BuildsEmpty h rows ty v m (block_result result) n
-  builds result x =
+  told : (fault : BuildFault) (f : StartFault) → TellsBuilt fault f → BuildAnswer h rows (plainly ty) v m (Err fault) n → BuildEmptyAnswer h rows ty v m (Err f) n
+  told B.Store f tells built = subst (λ (x : StartFault). BuildEmptyAnswer h rows ty v m (Err x) n) (sym tells) built.0
+  told B.Memory f tells built = subst (λ (x : StartFault). BuildEmptyAnswer h rows ty v m (Err x) n) (sym tells) tt
+  told B.Exhausted f tells built = absurd tells
+  told B.Size f tells built = absurd tells
+  told (B.Clash id kept new) f tells built = absurd tells
+
+  leaves : (result : Result (List ℕ) BuildFault) (answer : Result (List ℕ) StartFault) → Builds h rows (plainly ty) v m result n → BuildEmptyAnswer h rows ty v m answer n → BuildsEmpty h rows ty v m answer n
+  leaves result answer x is =
       let few : n.puts ≤ m.puts + 0 = nodes_gone h rows ty v (λ ns. n.puts ≤ m.puts + length ns) empty x.steps.puts in
       let some : m.puts ≤ n.puts = x.steps.later.puts in
-      record {
-        answer = answered result x.answer;
-        later = x.steps.later;
-        adds = nodes_gone h rows ty v (AddsOnly m n) empty x.steps.adds;
-        gets = x.steps.gets;
-        puts = omega (arith, few, some);
-      }
+      record { answer = is; later = x.steps.later; adds = nodes_gone h rows ty v (AddsOnly m n) empty x.steps.adds; gets = x.steps.gets; puts = omega (arith, few, some) }
+
+  pub built : (b : List ℕ) → Builds h rows (plainly ty) v m (Ok b) n → BuildsEmpty h rows ty v m (Ok b) n
+  built b x = leaves (Ok b) (Ok b) x (its_block b x.answer)
+
+  pub stopped : (fault : BuildFault) (f : StartFault) → TellsBuilt fault f → Builds h rows (plainly ty) v m (Err fault) n → BuildsEmpty h rows ty v m (Err f) n
+  stopped fault f tells x = leaves (Err fault) (Err f) x (told fault f tells x.answer)
 
   unbuilt : (f : StartFault) → BuildEmptyAnswer h rows ty v m (Err f) n → EmptyStops h rows ty m f n
   unbuilt F.Store answer = answer
@@ -99,13 +92,6 @@ module _ (h : List ℕ → List ℕ) (rows : List Row) (ty : TypeNo) (v : Value)
   blocks_are : block ∷ [] ≡ empty_blocks h rows ty
   blocks_are = ap (λ b. b ∷ []) built.answer.spelled ∙ sym (empty_block h rows ty v built.answer.tree empty built.answer.storable.tree)
 
-  is_block : (b : List ℕ) → Contains (block ∷ []) b → block ≡ b
-  is_block b among = by (Contains-push_cases [] block b among)
-    where
-      by : Contains [] b ⊎ (block ≡ b) → block ≡ b
-      by (inl none) = absurd (not_in_none b none)
-      by (inr same) = same
-
   keeps : (result : Result BlockId PutFault) → PutsBlock j block result n → KeepsEmpty h rows ty m n
   keeps result puts = record {
     later = Later-trans m j n built.later puts.later;
@@ -121,7 +107,7 @@ module _ (h : List ℕ → List ℕ) (rows : List Row) (ty : TypeNo) (v : Value)
       let hit = answer.1 in
       record {
         hit = record { kept = hit.kept; new = hit.new; held = hit.held; among = subst (λ (bs : List (List ℕ)). Contains bs hit.new) blocks_are hit.among; collide = hit.collide };
-        named = answer.0 ∙ ap id_of (is_block hit.new hit.among);
+        named = answer.0 ∙ ap id_of (is_one block hit.new hit.among);
       }
   put_answer (Err P.Memory) answer = tt
 

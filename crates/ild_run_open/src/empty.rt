@@ -3,7 +3,7 @@ ghost use Rattle.std.specs.Prelude.{◌≡◌, ◌<◌, Some, length, option_map
 ghost use Rattle.ild_schema.specs.Slots.{form_of, plainly};
 ghost use Rattle.ild_schema.specs.ValueSeen.{value_of};
 ghost use Rattle.ild_run_open.specs.Empty.{empty_in, IsEmpty};
-ghost use Rattle.ild_run_open.specs.inside.Steps.{BuildsEmpty, PutsEmpty, built_fault, put_fault};
+ghost use Rattle.ild_run_open.specs.inside.Steps.{BuildsEmpty, IsOfEmpty, PutsEmpty, TellsBuilt, put_fault};
 
 use crate::StartFault;
 use ild_build_blocks::{BuildFault, build};
@@ -32,14 +32,15 @@ fn form(acc: &Accepted, ty: TypeNo) -> &TypeDef
     acc.def(acc.base(ty))
 }
 
-/// Of no entry a short block is built, with no node of a HAMT beside it: but for the store, memory alone can be wanting.
+/// Why an empty value isn't built. Its block is short, with no node of a HAMT beside it, so that the store or memory is wanting.
 fn built_fault(fault: BuildFault) -> StartFault
-    ensures { result ≡ built_fault fault }
+    requires { IsOfEmpty fault }
+    ensures { TellsBuilt fault result }
 {
     match fault {
         BuildFault::Store => StartFault::Store,
-        BuildFault::Exhausted | BuildFault::Size | BuildFault::Clash { .. } | BuildFault::Memory =>
-            StartFault::Memory,
+        BuildFault::Memory => StartFault::Memory,
+        BuildFault::Exhausted | BuildFault::Size | BuildFault::Clash { .. } => unreachable!(),
     }
 }
 

@@ -37,8 +37,16 @@ Plans h rows slot v (Err B.Size) = IsTooLong h rows slot v
 Plans h rows slot v (Err B.Memory) = Unit {0}
 Plans h rows slot v (Err e) = ⊥
 
+-- what puts of planned blocks may end with
+abbrev pub IsPutFault : HamtFault → Type 0
+IsPutFault F.Store = Unit {0}
+IsPutFault (F.Clash id kept new) = Unit {0}
+IsPutFault F.Memory = Unit {0}
+IsPutFault fault = ⊥
+
 -- why a put stopped, for a caller
 abbrev pub StoppedBy : HamtFault → BuildFault → Type 0
 StoppedBy F.Store r = r ≡ B.Store
 StoppedBy (F.Clash id kept new) r = (r ≡ B.Clash id kept new) × AreBytes kept × AreBytes new
-StoppedBy fault r = r ≡ B.Memory
+StoppedBy F.Memory r = r ≡ B.Memory
+StoppedBy fault r = ⊥

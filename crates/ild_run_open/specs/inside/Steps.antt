@@ -25,12 +25,17 @@ open_fault (O.Block id why) = F.Block id why
 open_fault O.Store = F.Store
 open_fault O.Memory = F.Memory
 
-abbrev pub built_fault : BuildFault → StartFault
-built_fault B.Store = F.Store
-built_fault B.Exhausted = F.Memory
-built_fault B.Size = F.Memory
-built_fault (B.Clash id kept new) = F.Memory
-built_fault B.Memory = F.Memory
+-- why building the empty value stops: of no entry there is a trie, its block is short, and no other one is put
+abbrev pub IsOfEmpty : BuildFault → Type 0
+IsOfEmpty B.Store = Unit {0}
+IsOfEmpty B.Memory = Unit {0}
+IsOfEmpty fault = ⊥
+
+-- and as what it is told
+abbrev pub TellsBuilt : BuildFault → StartFault → Type 0
+TellsBuilt B.Store f = f ≡ F.Store
+TellsBuilt B.Memory f = f ≡ F.Memory
+TellsBuilt fault f = ⊥
 
 abbrev pub put_fault : PutFault → StartFault
 put_fault P.Failed = F.Store

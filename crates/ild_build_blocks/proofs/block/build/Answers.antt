@@ -1,7 +1,7 @@
 use Rattle.std.proofs.Common.{Ok, Err, subst}
 use Rattle.ild_bulk.specs.Putting.{PutsAll}
 use Rattle.ild_schema.specs.ValueSeen.{value_of}
-use Rattle.ild_build_blocks.proofs.Ending.{done, stopped, unplanned}
+use Rattle.ild_build_blocks.proofs.Ending.{done, put_faults, stopped, unplanned}
 use Rattle.ild_build_blocks.proofs.block.build.Goals as goal
 
 pub returns-in-Err : goal.returns-in-Err
@@ -19,3 +19,6 @@ returns-in-Err-put_all g c =
     let n = g.K.Store.moment c.put_all.new.store in
     stopped g.H.KeyHash.hash_of c.args.acc.now c.args.slot (value_of c.args.val.now) m n c.in-Ok.planned c.in-Err-put_all.fault c.stopped_by.result c.in-Ok.ensures c.stopped_by.ensures
     (subst (λ bs. PutsAll m bs (Err c.in-Err-put_all.fault) n) c.deref.ensures.value c.in-Err-put_all.ensures)
+
+pub stopped_by-requires : goal.stopped_by-requires
+stopped_by-requires g c = put_faults (g.K.Store.moment c.args.store.now) (g.K.Store.moment c.put_all.new.store) c.deref.result.now c.in-Err-put_all.fault c.in-Err-put_all.ensures

@@ -5,7 +5,7 @@ use Rattle.ild_hamt_climb.proofs.Planning.{climbs-none}
 use Rattle.ild_hamt_climb.proofs.Stopping.{way-rewrites}
 use Rattle.ild_hamt.specs.Descending.{trail_blocks}
 use Rattle.ild_hamt.proofs.Edited.{edits-from}
-use Rattle.ild_hamt.proofs.Sparing.{caused-none, caused-way}
+use Rattle.ild_hamt.proofs.Sparing.{caused-memory, caused-way}
 use Rattle.ild_hamt.proofs.rewriting.rewrite.Goals as goal
 
 pub returns-clause-rewrites : goal.returns-clause-rewrites
@@ -34,4 +34,4 @@ returns-clause-caused g c = caused-way c.in_ok-root.root c.deref.result.now _ _ 
 pub returns-in_err-root-clause-caused : goal.returns-in_err-root-clause-caused
 returns-in_err-root-clause-caused g c =
     let p = err_from_is_err_and c.from_residual.result c.from_residual.ensures.1 in
-    rw (p.1, p.2) (caused-none _ _ tt)
+    rw (p.1, p.2) (caused-memory _)

@@ -9,8 +9,7 @@ returns-then-len-trail-clause-plans c = λ h hashed are.
     let le = c.len.ensures.count in
     plans-few h c.args.trail.now.shape (trie_levels c.args.trail.now.shape - c.args.depth) c.args.depth c.args.rows c.few_slot.result c.args.plan.now.items (omega (arith, le)) (c.few_slot.ensures.same (omega (arith, le)))
 
-pub returns-in-Err-Exhausted-clause-plans : goal.returns-in-Err-Exhausted-clause-plans
-returns-in-Err-Exhausted-clause-plans c = λ h hashed are.
+pub returns-clause-plans : goal.returns-clause-plans
+returns-clause-plans c = λ h hashed are.
     let rows : keyed_rows c.deref-2.result.now ≡ c.args.rows = search rules in
-    let x = rw c.in-Err-Exhausted.field-0-is at (c.in-Err-Exhausted.ensures.plans h (rw c.deref-2.ensures.value (c.in_ok-keyed.ensures.hashes h (search rules) (search rules)))) in
-    rw rows at x
+    rw rows at (c.plan_keyed.ensures.plans h (rw c.deref-2.ensures.value (c.in_ok-keyed.ensures.hashes h (search rules) (search rules))))

@@ -9,7 +9,7 @@ use Rattle.ild_hamt_climb.proofs.Differing.{differs-without}
 use Rattle.ild_hamt.proofs.Leaving.{rest-state, removes-some}
 use Rattle.ild_hamt.specs.Edits.{entries_at_end}
 use Rattle.ild_hamt.proofs.Edited.{bare-at, edits-begun, edits-none, removes-along}
-use Rattle.ild_hamt.proofs.Sparing.{caused-key, caused-none}
+use Rattle.ild_hamt.proofs.Sparing.{caused-key, caused-memory}
 use Rattle.ild_hamt.proofs.trail.Trail.remove_way.Goals as goal
 
 pub returns-clause-removes : goal.returns-clause-removes
@@ -47,7 +47,7 @@ returns-in_err-rows-clause-edits g c = λ h k slots last leads.
 pub returns-in_err-rows-clause-caused : goal.returns-in_err-rows-clause-caused
 returns-in_err-rows-clause-caused g c =
     let p = err_from_is_err_and c.from_residual.result c.from_residual.ensures.1 in
-    rw (p.1, p.2) (caused-none _ _ tt)
+    rw (p.1, p.2) (caused-memory _)
 
 pub returns-in-None-clause-caused : goal.returns-in-None-clause-caused
 returns-in-None-clause-caused g c = caused-key _

@@ -12,7 +12,7 @@ use Rattle.ild_hamt.specs.Edits.{entries_at_end, is_full_at_end}
 use Rattle.ild_hamt.proofs.Edited.{edits-begun, edits-none, slot-stopped}
 use Rattle.ild_hamt.proofs.Hashed.{others-put}
 use Rattle.ild_hamt.proofs.Planned.{along-put, begun-at, end-order, end-small}
-use Rattle.ild_hamt.proofs.Sparing.{caused-none}
+use Rattle.ild_hamt.proofs.Sparing.{caused-memory, caused-plan}
 use Rattle.ild_hamt.proofs.trail.Trail.set_way.Goals as goal
 
 pub returns-in_err-rows-clause-sets : goal.returns-in_err-rows-clause-sets
@@ -78,14 +78,14 @@ returns-clause-edits g c = λ h k v slots last leads stands.
 pub returns-in_err-rows-clause-caused : goal.returns-in_err-rows-clause-caused
 returns-in_err-rows-clause-caused g c =
     let p = err_from_is_err_and c.from_residual.result c.from_residual.ensures.1 in
-    rw (p.1, p.2) (caused-none _ _ tt)
+    rw (p.1, p.2) (caused-memory _)
 
 pub returns-in_err-put-clause-caused : goal.returns-in_err-put-clause-caused
 returns-in_err-put-clause-caused g c =
     let p = err_from_is_err_and c.from_residual-in_err-put.result c.from_residual-in_err-put.ensures.1 in
-    rw (p.1, p.2) (caused-none _ _ tt)
+    rw (p.1, p.2) (caused-memory _)
 
 pub returns-in_err-slot-clause-caused : goal.returns-in_err-slot-clause-caused
 returns-in_err-slot-clause-caused g c =
     let p = err_from_is_err_and c.from_residual-in_err-slot.result c.from_residual-in_err-slot.ensures.1 in
-    rw (p.1, p.2) (caused-none _ c.in_err-slot.field-0.0 c.in_err-slot.ensures.fault)
+    rw (p.1, p.2) (caused-plan _ c.in_err-slot.field-0.0)
