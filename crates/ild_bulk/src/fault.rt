@@ -9,7 +9,7 @@ use std::alloc::{AllocError, AllocFailed};
 /// Why the nodes of a HAMT can't be planned. Planning asks no store.
 #[derive(Clone, Copy, Debug, PartialEq, Eq)]
 pub enum PlanFault {
-    /// More keys than a bucket takes agree in all bits of their hashes.
+    /// More keys than a bucket takes agree in all bits of their hashes that levels read.
     Exhausted,
     /// An allocation was refused.
     Memory,

@@ -1,20 +1,19 @@
 -- Places that a walk reaches.
-use Rattle.std.proofs.Common.{◌≡◌, ◌≢◌, ◌⊎◌, inl, inr, ⊎_elim, ℕ, zero, suc, ◌+◌, ◌≤◌, ◌<◌, List, [], ◌∷◌, ◌++◌, length, get_or, Bool, true, false, cond, nat_eq, ◌-◌, Option, Some, None, refl, sym, ap, subst, ◌∙◌, arith}
+use Rattle.std.proofs.Common.{◌≡◌, ◌⊎◌, inl, inr, ⊎_elim, ℕ, suc, ◌+◌, ◌≤◌, ◌<◌, List, [], ◌∷◌, ◌++◌, length, get_or, Bool, true, false, cond, nat_eq, not, ◌-◌, Option, Some, None, refl, sym, ap, subst, ◌∙◌, arith}
 use Rattle.std.proofs.lemmas.Option.{same_Some, none-some}
-use Rattle.std.proofs.lemmas.List.{append_assoc, append-nil, get_or-set_same, get_or-set_other}
-use Rattle.std.proofs.Math.ListN.{set}
-use Rattle.std.specs.List.{position_from, find}
+use Rattle.std.proofs.lemmas.Bool.{and_parts, eqb-true}
+use Rattle.std.proofs.lemmas.List.{append_assoc, append-nil}
+use Rattle.std.specs.HashSet.{HashSet, contains}
+use Rattle.std.specs.List.{position_from, find, list_any}
 use Rattle.ild_data.specs.Key.{same_text}
 use Rattle.ild_data.specs.Spell.{id_of}
 use Rattle.ild_edges.specs.Store.{block_at}
 use Rattle.ild_edges.proofs.Held.{block_at_id}
 use Rattle.ild_edges.specs.Among.{IsIn}
-use Rattle.ild_edges.proofs.Among.{IsIn-left, IsIn-right, IsIn-append, IsIn-one, IsIn-at}
+use Rattle.ild_edges.proofs.Among.{IsIn-left, IsIn-right, IsIn-append, IsIn-one}
 use Rattle.ild_dirty.specs.Own.{index_at}
 use Rattle.ild_dirty.specs.Beneath.{Place, Places, place, no_places, beside, block_of, place_kind, IsTree, AreTrees, HasPlace, HasPlaceBelow, AgreesWith, blocks_in, blocks_below}
-use Rattle.ild_dirty.specs.inside.Walk.{IsOwn, own_block, IsOneOf, Grows, AreNoted}
-
--- ---- members
+use Rattle.ild_dirty.specs.inside.Walk.{IsOwn, own_block, IsOneOf, Grows, AreSeen, is_same_spot}
 
 -- ---- one place more
 
@@ -53,20 +52,34 @@ grows_new own c i old new found is = record {
   only = λ s among. record { child = c; among = inl refl; found = sym found ∙ ap (λ (x : ℕ × ℕ). Some x.0) (sym (IsIn-one s (i, c.1) among)); kind = ap (λ (x : ℕ × ℕ). x.1) (sym (IsIn-one s (i, c.1) among)) };
 }
 
-pub noted_more : (firsts : List (Option ℕ)) (old new more : List (ℕ × ℕ)) → new ≡ old ++ more → AreNoted firsts old → AreNoted firsts new
-noted_more firsts old new more is noted j k e = rw is (IsIn-left (j, k) old more (noted j k e))
+-- an empty set has none
+pub none_seen : {S : Type 0} (set : HashSet (ℕ × ℕ) S) (spots : List (ℕ × ℕ)) → set.keys ≡ [] → AreSeen (contains is_same_spot set) spots
+none_seen set spots empty s told = absurd (let bad : false ≡ true = ap (λ ks. list_any (is_same_spot s) ks) (sym empty) ∙ told in cc)
 
-noted_by : (firsts : List (Option ℕ)) (old : List (ℕ × ℕ)) (i k : ℕ) → i < length firsts → AreNoted firsts old → (j l : ℕ) → (t : Bool) → t ≡ nat_eq j i → get_or (set firsts i (Some k)) j None ≡ Some l → IsIn (j, l) (old ++ (i, k) ∷ [])
-noted_by firsts old i k lt noted j l true is e =
-    let same : j ≡ i = grind (arith, is) in
-    let kind : k ≡ l = same_Some k l (sym (get_or-set_same firsts i (Some k) None lt) ∙ ap (λ n. get_or (set firsts i (Some k)) n None) (sym same) ∙ e) in
-    IsIn-right (j, l) old ((i, k) ∷ []) (inl (rw (same, kind) refl))
-noted_by firsts old i k lt noted j l false is e =
-    let apart : j ≢ i = λ same. grind (arith, is, same) in
-    IsIn-left (j, l) old ((i, k) ∷ []) (noted j l (sym (get_or-set_other firsts i j (Some k) None apart) ∙ e))
+same_spot : (s t : ℕ × ℕ) → is_same_spot s t ≡ true → s ≡ t
+same_spot (i, j) (k, l) same =
+    let both : (nat_eq i k ≡ true) × (nat_eq j l ≡ true) = and_parts (nat_eq i k) (nat_eq j l) same in
+    rw (eqb-true i k both.0, eqb-true j l both.1) refl
 
-pub noted_set : (firsts now : List (Option ℕ)) (old new : List (ℕ × ℕ)) (i k : ℕ) → i < length firsts → now ≡ set firsts i (Some k) → new ≡ old ++ (i, k) ∷ [] → AreNoted firsts old → AreNoted now new
-noted_set firsts now old new i k lt was is noted = rw (was, is) (λ j l e. noted_by firsts old i k lt noted j l (nat_eq j i) refl e)
+seen_by : (has now : ℕ × ℕ → Bool) (spot s : ℕ × ℕ) (spots : List (ℕ × ℕ)) (t : Bool) → is_same_spot spot s ≡ t → now s ≡ cond t true (has s) → IsIn spot spots → (has s ≡ true → IsIn s spots) → now s ≡ true → IsIn s spots
+seen_by has now spot s spots true same put here others told = subst (λ (x : ℕ × ℕ). IsIn x spots) (same_spot spot s same) here
+seen_by has now spot s spots false apart put here others told = others (sym put ∙ told)
+
+-- one place more in a set
+pub seen_more : (has now : ℕ × ℕ → Bool) (spot : ℕ × ℕ) (old new : List (ℕ × ℕ)) → AreSeen has old → ((s : ℕ × ℕ) → now s ≡ cond (is_same_spot spot s) true (has s)) → IsIn spot new → ((s : ℕ × ℕ) → IsIn s old → IsIn s new) → AreSeen now new
+seen_more has now spot old new seen put here stays s told = seen_by has now spot s new (is_same_spot spot s) refl (put s) here (λ was. stays s (seen s was)) told
+
+-- a place that the set had
+pub seen_there : (has now : ℕ × ℕ → Bool) (spot : ℕ × ℕ) (old : List (ℕ × ℕ)) → AreSeen has old → ((s : ℕ × ℕ) → now s ≡ cond (is_same_spot spot s) true (has s)) → has spot ≡ true → AreSeen now old
+seen_there has now spot old seen put was = seen_more has now spot old old seen put (seen spot was) (λ s is. is)
+
+-- a place that came
+pub seen_new : (has now : ℕ × ℕ → Bool) (spot : ℕ × ℕ) (old new : List (ℕ × ℕ)) → AreSeen has old → ((s : ℕ × ℕ) → now s ≡ cond (is_same_spot spot s) true (has s)) → new ≡ old ++ spot ∷ [] → AreSeen now new
+seen_new has now spot old new seen put is = rw is (seen_more has now spot old (old ++ spot ∷ []) seen put (IsIn-right spot old (spot ∷ []) (inl refl)) (λ s was. IsIn-left s old (spot ∷ []) was))
+
+pub not_not : (b t : Bool) → t ≡ not b → t ≡ false → b ≡ true
+not_not true t is e = refl
+not_not false t is e = absurd (let bad : true ≡ false = sym is ∙ e in cc)
 
 -- ---- places of many children
 
@@ -167,8 +180,3 @@ mutual
   child_places children own [] (beside t ts) trees agrees b k below c is d found = absurd trees
   child_places children own (e ∷ cs) (beside t ts) trees agrees b k (inl here) c is d found = inl (child_place children own t trees.2 (agrees_left own (blocks_in t) (blocks_below ts) agrees) b k here c is d found)
   child_places children own (e ∷ cs) (beside t ts) trees agrees b k (inr there) c is d found = inr (child_places children own cs ts trees.3 (agrees_right own (blocks_in t) (blocks_below ts) agrees) b k there c is d found)
-
-pub among_at : (xs : List (ℕ × ℕ)) (i j k : ℕ) (d : ℕ × ℕ) → i < length xs → (get_or xs i d).0 ≡ j → (get_or xs i d).1 ≡ k → IsIn (j, k) xs
-among_at [] i j k d lt first second = absurd (omega (arith, lt))
-among_at (x ∷ xs) zero j k d lt first second = inl (rw (← first, ← second) refl)
-among_at (x ∷ xs) (suc i) j k d lt first second = inr (among_at xs i j k d (omega (arith, lt)) first second)

@@ -1,5 +1,5 @@
 -- The places that a walk reaches among a batch's own blocks, and an order of them in which children stand first.
-use Rattle.std.specs.Prelude.{◌≡◌, ◌⊎◌, ℕ, ◌+◌, ◌<◌, ◌≤◌, List, [], ◌∷◌, ◌++◌, length, get_or, Bool, true, false, ◌&&◌, ◌||◌, nat_eq, Option, Some, None, if◌then◌else◌}
+use Rattle.std.specs.Prelude.{◌≡◌, ◌⊎◌, ℕ, ◌+◌, ◌<◌, ◌≤◌, List, [], ◌∷◌, ◌++◌, length, get_or, Bool, true, false, ◌&&◌, ◌||◌, nat_eq, Some, if◌then◌else◌}
 use Rattle.std.specs.Option.{option_map_or}
 use Rattle.ild_data.specs.Spell.{id_of}
 use Rattle.ild_edges.specs.Among.{IsIn}
@@ -28,9 +28,12 @@ pub record Grows (own : List (List ℕ)) (cs : List (List ℕ × ℕ)) (old new 
   pub leads : Leads own cs new
   pub only : (s : ℕ × ℕ) → IsIn s more → IsOneOf own cs s
 
--- what is noted of a block is the kind of a place at which it was reached
-abbrev pub AreNoted : List (Option ℕ) → List (ℕ × ℕ) → Type 0
-AreNoted firsts spots = (j k : ℕ) → get_or firsts j None ≡ Some k → IsIn (j, k) spots
+abbrev pub is_same_spot : ℕ × ℕ → ℕ × ℕ → Bool
+is_same_spot s t = nat_eq s.0 t.0 && nat_eq s.1 t.1
+
+-- what a set has is among these places
+abbrev pub AreSeen : (ℕ × ℕ → Bool) → List (ℕ × ℕ) → Type 0
+AreSeen has spots = (s : ℕ × ℕ) → has s ≡ true → IsIn s spots
 
 -- the children of each of these places lead on
 abbrev pub LeadOn : List (List ℕ) → (ℕ → List ℕ → List (List ℕ × ℕ)) → List (ℕ × ℕ) → List (ℕ × ℕ) → Type 0
