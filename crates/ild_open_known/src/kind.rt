@@ -19,6 +19,13 @@ pub struct ReadAs {
     pub room: u32,
 }
 
+/// Where a root or a node stands among those that are known: worked out once, to look for it and to add it. Who asks at another's seat
+/// finds nothing.
+#[derive(Clone, Copy)]
+pub struct Seat {
+    pub(crate) digest: [u8; 32],
+}
+
 // Whether two shapes have the same numbers.
 fn is_shape(a: HamtShape, b: HamtShape) -> bool
     ensures { result ≡ true → a ≡ b }
@@ -55,18 +62,22 @@ impl ReadAs {
         hasher
     }
 
-    /// A number for this and for bytes, by which both are found again, whatever the room.
-    pub(crate) fn digest(self, bytes: &[u8]) -> [u8; 32] {
+    /// The seat of a root with these bytes that is read as this, in whatever room.
+    pub fn seat(self, bytes: &[u8]) -> Seat {
         let mut hasher = self.begun();
         hasher.update(bytes);
-        hasher.finalize()
+        Seat {
+            digest: hasher.finalize(),
+        }
     }
 
-    /// The same for this and for a node at the end of a way.
-    pub(crate) fn digest_at(self, id: BlockId, way: &[u8]) -> [u8; 32] {
+    /// The seat of the node under an id at the end of a way, in a HAMT that is read as this, in whatever room.
+    pub fn seat_at(self, id: BlockId, way: &[u8]) -> Seat {
         let mut hasher = self.begun();
         hasher.update(&id.0);
         hasher.update(way);
-        hasher.finalize()
+        Seat {
+            digest: hasher.finalize(),
+        }
     }
 }

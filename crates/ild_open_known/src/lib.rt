@@ -5,5 +5,5 @@
 mod kind;
 mod table;
 
-pub use kind::ReadAs;
+pub use kind::{ReadAs, Seat};
 pub use table::Known;

@@ -4,7 +4,7 @@ ghost use Rattle.ild_open_known.specs.Covers.{IsKnown, IsKnownNode, IsSpot};
 ghost use Rattle.ild_open_known.specs.Roots.{known_in, nodes_in};
 ghost use Rattle.ild_open_known.specs.declared.kind.ReadAs.{ReadAs as As};
 
-use crate::kind::ReadAs;
+use crate::kind::{ReadAs, Seat};
 use ild_data::{BlockId, Octets};
 use std::alloc::{AllocError, Global};
 use std::collections::BTreeMap;
@@ -50,19 +50,25 @@ impl Known {
         }
     }
 
-    /// Whether a root with these bytes was found sound, read as this in no greater room. What was added may be missed where memory was
-    /// wanting.
-    pub fn has(&self, read_as: ReadAs, bytes: &[u8]) -> bool
+    /// Whether a root with these bytes, whose seat this is, was found sound, read as this in no greater room. What was added may be missed
+    /// where memory was wanting.
+    pub fn has(&self, seat: Seat, read_as: ReadAs, bytes: &[u8]) -> bool
         ensures { result ≡ true → IsKnown (known_in self.now) read_as bytes.now }
     {
-        match self.roots.get(&read_as.digest(bytes)) {
+        match self.roots.get(&seat.digest) {
             Some(root) => root.read_as.covers(read_as) && root.bytes.as_slice() == bytes,
             None => false,
         }
     }
 
     // Adds a root, as `add` does, and tells where memory is wanting.
-    fn put(&mut self, alloc: Global, read_as: ReadAs, bytes: &[u8]) -> Result<(), AllocError>
+    fn put(
+        &mut self,
+        alloc: Global,
+        seat: Seat,
+        read_as: ReadAs,
+        bytes: &[u8],
+    ) -> Result<(), AllocError>
         ensures added { (r : As × List ℕ) → Contains (known_in self.new) r → Contains (known_in self.old) r ⊎ (r ≡ (read_as, bytes.now)) }
         ensures nodes { nodes_in self.new ≡ nodes_in self.old }
     {
@@ -70,25 +76,25 @@ impl Known {
             read_as,
             bytes: Octets::of(alloc, bytes)?,
         };
-        self.roots.insert(read_as.digest(bytes), root)?;
+        self.roots.insert(seat.digest, root)?;
         Ok(())
     }
 
-    /// Adds a root that was found sound, read as this, in the place of the same one in another room. Where memory is wanting it isn't
-    /// added.
-    pub fn add(&mut self, alloc: Global, read_as: ReadAs, bytes: &[u8])
+    /// Adds a root that was found sound, read as this, at its seat, in the place of the same one in another room. Where memory is wanting
+    /// it isn't added.
+    pub fn add(&mut self, alloc: Global, seat: Seat, read_as: ReadAs, bytes: &[u8])
         ensures added { (r : As × List ℕ) → Contains (known_in self.new) r → Contains (known_in self.old) r ⊎ (r ≡ (read_as, bytes.now)) }
         ensures nodes { nodes_in self.new ≡ nodes_in self.old }
     {
-        let _added = self.put(alloc, read_as, bytes);
+        let _added = self.put(alloc, seat, read_as, bytes);
     }
 
-    /// Whether the node under an id was found sound at this way from a root, read as this in no greater room. What was added may be
-    /// missed where memory was wanting.
-    pub fn has_node(&self, read_as: ReadAs, id: BlockId, way: &[u8]) -> bool
+    /// Whether the node under an id, whose seat this is, was found sound at this way from a root, read as this in no greater room. What
+    /// was added may be missed where memory was wanting.
+    pub fn has_node(&self, seat: Seat, read_as: ReadAs, id: BlockId, way: &[u8]) -> bool
         ensures { result ≡ true → IsKnownNode (nodes_in self.now) read_as id.0 way.now }
     {
-        match self.nodes.get(&read_as.digest_at(id, way)) {
+        match self.nodes.get(&seat.digest) {
             Some(spot) => spot.read_as.covers(read_as) && is_at(spot, id, way),
             None => false,
         }
@@ -98,6 +104,7 @@ impl Known {
     fn put_node(
         &mut self,
         alloc: Global,
+        seat: Seat,
         read_as: ReadAs,
         id: BlockId,
         way: &[u8],
@@ -110,16 +117,16 @@ impl Known {
             id,
             way: Octets::of(alloc, way)?,
         };
-        self.nodes.insert(read_as.digest_at(id, way), spot)?;
+        self.nodes.insert(seat.digest, spot)?;
         Ok(())
     }
 
-    /// Adds a node that was found sound at a way, read as this, in the place of the same one in another room. Where memory is wanting
-    /// it isn't added.
-    pub fn add_node(&mut self, alloc: Global, read_as: ReadAs, id: BlockId, way: &[u8])
+    /// Adds a node that was found sound at a way, read as this, at its seat, in the place of the same one in another room. Where memory is
+    /// wanting it isn't added.
+    pub fn add_node(&mut self, alloc: Global, seat: Seat, read_as: ReadAs, id: BlockId, way: &[u8])
         ensures added { (r : As × List ℕ × List ℕ) → Contains (nodes_in self.new) r → Contains (nodes_in self.old) r ⊎ (r ≡ (read_as, id.0, way.now)) }
         ensures roots { known_in self.new ≡ known_in self.old }
     {
-        let _added = self.put_node(alloc, read_as, id, way);
+        let _added = self.put_node(alloc, seat, read_as, id, way);
     }
 }

@@ -59,7 +59,6 @@ pub fn replace<K: Store, H: KeyHash>(
     match parts.verb {
         Verb::Set => edited(alloc, parts, &PartEdit::Set(*part), keys, store),
         Verb::Ins => edited(alloc, parts, &PartEdit::Insert(*part), keys, store),
-        Verb::Read => unreachable!(),
         Verb::Del => unreachable!(),
     }
 }

@@ -31,7 +31,6 @@ use Rattle.ild_typed_fronts.specs.Front.{front_in}
 
 -- the edit of a text that a verb is, where a text comes or what is there goes
 abbrev pub text_edit_of : Verb → Option (Bor (List ℕ)) → Option TextEdit
-text_edit_of V.Read text = None
 text_edit_of V.Set None = None
 text_edit_of V.Set (Some t) = Some (E.Set t)
 text_edit_of V.Ins None = None

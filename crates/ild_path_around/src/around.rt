@@ -13,7 +13,6 @@ fn text_edit<'t>(verb: Verb, text: Option<&'t str>) -> Option<TextEdit<'t>>
     ensures { result ≡ text_edit_of verb text.entry }
 {
     match verb {
-        Verb::Read => None,
         Verb::Set => match text {
             Some(text) => Some(TextEdit::Set(text)),
             None => None,

@@ -3,8 +3,8 @@ use crate::seen::view_of;
 use hex::decode;
 use ild_cbor::check;
 use ild_compile::compile;
-use ild_path_room::{PartEdit, leaves_hole, room_left};
-use ild_path_rules::{DeleteFault, key_fits, refusal_to_delete, slot_to_insert, slot_to_set};
+use ild_path_room::{PartMotion, leaves_hole, room_left};
+use ild_path_rules::{Refusal, key_fits, refusal_to_delete, slot_to_insert, slot_to_set};
 use ild_schema::{Accepted, Slot};
 use ild_script::line_of;
 use ild_view::View;
@@ -67,11 +67,11 @@ fn is_slot(acc: &Accepted, slot: Option<Slot>, want: &str) -> Option<bool> {
 }
 
 /// A word for whether a part may be deleted.
-fn deleted(refusal: Option<DeleteFault>) -> &'static str {
+fn deleted(refusal: Option<Refusal>) -> &'static str {
     match refusal {
         None => "ok",
-        Some(DeleteFault::Path) => "path",
-        Some(DeleteFault::Mismatch) => "mismatch",
+        Some(Refusal::Path) => "path",
+        Some(Refusal::Mismatch) => "mismatch",
     }
 }
 
@@ -96,8 +96,8 @@ pub(crate) fn is_allowed(
 /// Whether an edit at a segment of a view leaves holes so.
 pub(crate) fn leaves_holes(view: &View<'_>, segment: &str, want: &str) -> bool {
     let told = [
-        flag(b'c', leaves_hole(view, segment, PartEdit::Comes)),
-        flag(b'g', leaves_hole(view, segment, PartEdit::Goes)),
+        flag(b'c', leaves_hole(view, segment, PartMotion::Comes)),
+        flag(b'g', leaves_hole(view, segment, PartMotion::Goes)),
     ];
     want.as_bytes() == told.as_slice()
 }

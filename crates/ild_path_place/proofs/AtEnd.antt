@@ -29,8 +29,8 @@ use Rattle.ild_path_place.specs.inside.Slots.{SlotAnswer, part_slot}
 use Rattle.ild_path_place.specs.declared.ending.Found.{Found}
 use Rattle.ild_path_place.specs.declared.fault.PathFault.{PathFault}
 use Rattle.ild_path_place.specs.declared.fault.PathFault.TheVariants as F
-use Rattle.ild_path_place.specs.declared.refusal.Refusal.{Refusal}
-use Rattle.ild_path_place.specs.declared.refusal.Refusal.TheVariants as R
+use Rattle.ild_path_rules.specs.declared.delete.Refusal.{Refusal}
+use Rattle.ild_path_rules.specs.declared.delete.Refusal.TheVariants as R
 use Rattle.ild_path_place.specs.declared.verb.Verb.{Verb}
 use Rattle.ild_path_place.specs.declared.verb.Verb.TheVariants as V
 use Rattle.ild_path_room.proofs.Telling.{view_typed}
@@ -197,9 +197,6 @@ module _ (h : List ℕ → List ℕ) (rows : List Row) (was : List (List ℕ)) (
       part_same = ap (option_map (λ (r : InSlot). r.0)) part_front ∙ slots_same (part (seen rows holder) s)
 
       of_value : (verb : Verb) (r : Result Slot Refusal) → SlotAnswer rows (front_in h rows holder) s verb r → SlotAnswer rows holder s verb r
-      of_value V.Read (Ok there) a = sym part_same ∙ a
-      of_value V.Read (Err R.Path) a = sym part_same ∙ a
-      of_value V.Read (Err R.Mismatch) a = a
       of_value V.Set (Ok there) a = sym alike.set ∙ a
       of_value V.Set (Err R.Path) a = sym alike.set ∙ a
       of_value V.Set (Err R.Mismatch) a = a
@@ -207,8 +204,7 @@ module _ (h : List ℕ → List ℕ) (rows : List Row) (was : List (List ℕ)) (
       of_value V.Ins (Err R.Path) a = sym alike.inserted ∙ a
       of_value V.Ins (Err R.Mismatch) a = a
       of_value V.Del (Ok there) a = (sym alike.deleted ∙ a.0, sym part_same ∙ a.1)
-      of_value V.Del (Err R.Path) a = sym alike.deleted ∙ a
-      of_value V.Del (Err R.Mismatch) a = sym alike.deleted ∙ a
+      of_value V.Del (Err refusal) a = sym alike.deleted ∙ a
 
       last_inside : (o : Option InSlot) → option_map_or (λ (r : InSlot). in_one_block rows r []) o true ≡ true
       last_inside None = refl

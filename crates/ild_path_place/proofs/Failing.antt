@@ -15,8 +15,8 @@ use Rattle.ild_path_place.specs.declared.ending.Found.{Found}
 use Rattle.ild_path_place.specs.declared.fault.PathFault.{PathFault}
 use Rattle.ild_path_place.specs.declared.fault.PathFault.TheVariants as F
 use Rattle.ild_path_place.specs.declared.place.Place.{Place}
-use Rattle.ild_path_place.specs.declared.refusal.Refusal.{Refusal}
-use Rattle.ild_path_place.specs.declared.refusal.Refusal.TheVariants as R
+use Rattle.ild_path_rules.specs.declared.delete.Refusal.{Refusal}
+use Rattle.ild_path_rules.specs.declared.delete.Refusal.TheVariants as R
 use Rattle.ild_path_place.specs.declared.verb.Verb.{Verb}
 use Rattle.ild_path_place.specs.declared.verb.Verb.TheVariants as V
 use Rattle.ild_schema.specs.Value.{Value}
@@ -69,5 +69,4 @@ pub whole_fails : (slot : Slot) (verb : Verb) (m n : Moment) (r : Result Place P
 whole_fails slot verb m n (Ok place) x = tt
 whole_fails slot V.Ins m n (Err e) x = subst (λ (z : PathFault). FailsOnly {A = Place} m (Err z) n) (sym x) tt
 whole_fails slot V.Del m n (Err e) x = subst (λ (z : PathFault). FailsOnly {A = Place} m (Err z) n) (sym x) tt
-whole_fails slot V.Read m n (Err e) x = absurd x
 whole_fails slot V.Set m n (Err e) x = absurd x

@@ -14,8 +14,8 @@ use Rattle.ild_path_place.specs.declared.verb.Verb.TheVariants as W
 use Rattle.ild_path_room.proofs.Holes.{tells_plain, tells_tuple}
 use Rattle.ild_path_room.specs.Hole.{TellsHole, is_tuple, told_at}
 use Rattle.ild_path_room.specs.Room.{by_set}
-use Rattle.ild_path_room.specs.declared.hole.PartEdit.{PartEdit}
-use Rattle.ild_path_room.specs.declared.hole.PartEdit.TheVariants as E
+use Rattle.ild_path_room.specs.declared.hole.PartMotion.{PartMotion}
+use Rattle.ild_path_room.specs.declared.hole.PartMotion.TheVariants as E
 use Rattle.ild_schema.specs.Parts.{part_named}
 use Rattle.ild_schema.specs.Slots.{form_of}
 use Rattle.ild_schema.specs.Value as V
@@ -125,17 +125,17 @@ no_root st (V.hamt d) e = absurd (true≢false (sym e))
 no_root st v e = refl
 
 -- two answers are one
-one_answer : (rows : List Row) (p : InSlot) (s : List ℕ) (e : PartEdit) (a b : Bool) → TellsHole rows p s e a → TellsHole rows p s e b → a ≡ b
+one_answer : (rows : List Row) (p : InSlot) (s : List ℕ) (e : PartMotion) (a b : Bool) → TellsHole rows p s e a → TellsHole rows p s e b → a ≡ b
 one_answer rows p s E.Comes a b x y = x by_set V.null ∙ sym (y by_set V.null)
 one_answer rows p s E.Goes a b x y = x ∙ sym y
 
 -- what is told of a holder's front is told of the holder
 module _ (h : List ℕ → List ℕ) (rows : List Row) (is_key : ℕ → List ℕ → Bool) (keys : TestsKeys rows is_key) (q : InSlot) (typed : OfType rows q.0 q.1) (front_typed : OfType rows q.0 (front h rows q.0 q.1))
     (entire : is_whole q.1 ≡ true) (none : has_hole rows q.0 q.1 ≡ false) (s : List ℕ) where
-  of_plain : (e : PartEdit) (d : TypeDef) → form_of rows q.0 ≡ Some d → is_tuple d ≡ false → (a : Bool) → TellsHole rows (front_in h rows q) s e a → TellsHole rows q s e a
+  of_plain : (e : PartMotion) (d : TypeDef) → form_of rows q.0 ≡ Some d → is_tuple d ≡ false → (a : Bool) → TellsHole rows (front_in h rows q) s e a → TellsHole rows q s e a
   of_plain e d form plain a x = subst (TellsHole rows q s e) (one_answer rows (front_in h rows q) s e false a (tells_plain rows (front_in h rows q) s e d form plain) x) (tells_plain rows q s e d form plain)
 
-  of_tuple : (e : PartEdit) (st : StructDef) → form_of rows q.0 ≡ Some (D.Struct st) → is_tuple (D.Struct st) ≡ true → (a : Bool) → TellsHole rows (front_in h rows q) s e a → TellsHole rows q s e a
+  of_tuple : (e : PartMotion) (st : StructDef) → form_of rows q.0 ≡ Some (D.Struct st) → is_tuple (D.Struct st) ≡ true → (a : Bool) → TellsHole rows (front_in h rows q) s e a → TellsHole rows q s e a
   of_tuple e st form is a x =
       let d : TypeDef = D.Struct st in
       let o = option_and_then (part_named s) (form_of rows q.0) in
@@ -146,11 +146,11 @@ module _ (h : List ℕ → List ℕ) (rows : List Row) (is_key : ℕ → List �
       let at_front : TellsHole rows (front_in h rows q) s e (told_at e o c) = tells_tuple rows (front_in h rows q) s e d o c form is front_typed (no_hole_in_front h rows q.0 q.1 d form none) refl (sym count) in
       subst (TellsHole rows q s e) (one_answer rows (front_in h rows q) s e (told_at e o c) a at_front x) (tells_tuple rows q s e d o c form is typed own refl refl)
 
-  of_struct : (e : PartEdit) (st : StructDef) (b : Bool) → is_tuple (D.Struct st) ≡ b → form_of rows q.0 ≡ Some (D.Struct st) → (a : Bool) → TellsHole rows (front_in h rows q) s e a → TellsHole rows q s e a
+  of_struct : (e : PartMotion) (st : StructDef) (b : Bool) → is_tuple (D.Struct st) ≡ b → form_of rows q.0 ≡ Some (D.Struct st) → (a : Bool) → TellsHole rows (front_in h rows q) s e a → TellsHole rows q s e a
   of_struct e st false is form = of_plain e (D.Struct st) form is
   of_struct e st true is form = of_tuple e st form is
 
-  of_front : (e : PartEdit) (d : TypeDef) → form_of rows q.0 ≡ Some d → (a : Bool) → TellsHole rows (front_in h rows q) s e a → TellsHole rows q s e a
+  of_front : (e : PartMotion) (d : TypeDef) → form_of rows q.0 ≡ Some d → (a : Bool) → TellsHole rows (front_in h rows q) s e a → TellsHole rows q s e a
   of_front e (D.Struct st) form = of_struct e st (is_tuple (D.Struct st)) refl form
   of_front e d form = of_plain e d form refl
 
@@ -158,7 +158,6 @@ module _ (h : List ℕ → List ℕ) (rows : List Row) (is_key : ℕ → List �
   hole_of_front d form W.Set a x = of_front E.Comes d form a x
   hole_of_front d form W.Ins a x = of_front E.Comes d form a x
   hole_of_front d form W.Del a x = of_front E.Goes d form a x
-  hole_of_front d form W.Read a x = x
 
 -- ---- at the end of a path
 

@@ -30,8 +30,8 @@ use Rattle.ild_path_place.specs.inside.Keys.{FitsAs, key_in}
 use Rattle.ild_path_place.specs.inside.Slots.{FitsKey, KeySlot, SlotAnswer, part_slot}
 use Rattle.ild_path_place.specs.declared.ending.Found.{Found}
 use Rattle.ild_path_place.specs.declared.place.End.TheVariants as D
-use Rattle.ild_path_place.specs.declared.refusal.Refusal.{Refusal}
-use Rattle.ild_path_place.specs.declared.refusal.Refusal.TheVariants as R
+use Rattle.ild_path_rules.specs.declared.delete.Refusal.{Refusal}
+use Rattle.ild_path_rules.specs.declared.delete.Refusal.TheVariants as R
 use Rattle.ild_path_place.specs.declared.verb.Verb.{Verb}
 use Rattle.ild_path_place.specs.declared.verb.Verb.TheVariants as V
 use Rattle.ild_schema.specs.declared.def.MapForm.TheVariants as MF
@@ -108,8 +108,6 @@ module _ (h : List ℕ → List ℕ) (rows : List Row) (was : List (List ℕ)) (
     slot_answer o e V.Set r k = subst (SlotAnswer rows holder key V.Set) (sym k) (ap (λ K. slot_to_set K key) holder_is)
     slot_answer (Some w) e V.Ins r k = subst (SlotAnswer rows holder key V.Ins) (sym k) (ap (λ K. slot_to_insert K key) holder_is ∙ ap (insert_by slot) e)
     slot_answer None e V.Ins r k = subst (SlotAnswer rows holder key V.Ins) (sym k) (ap (λ K. slot_to_insert K key) holder_is ∙ ap (insert_by slot) e)
-    slot_answer (Some w) e V.Read r k = subst (SlotAnswer rows holder key V.Read) (sym k) (slot_some (Some w) w e refl)
-    slot_answer None e V.Read r k = subst (SlotAnswer rows holder key V.Read) (sym k) (slot_none e)
     slot_answer (Some w) e V.Del r k = subst (SlotAnswer rows holder key V.Del) (sym k) (ap (λ K. refusal_to_delete K key) holder_is ∙ ap unless_there e, slot_some (Some w) w e refl)
     slot_answer None e V.Del r k = subst (SlotAnswer rows holder key V.Del) (sym k) (ap (λ K. refusal_to_delete K key) holder_is ∙ ap unless_there e)
 

@@ -7,10 +7,9 @@ use Rattle.ild_path_edits.specs.Edit.{change, del_at, del_in, ins_at, new_slot, 
 use Rattle.ild_path_edits.specs.Stop.{Stop, fault_by, fault_in, may_delete, part_along, place_fault, stopped}
 use Rattle.ild_path_edits.proofs.Stops.{stops_tell}
 use Rattle.ild_path_edits.specs.Table.{delete_part, refusal_to_delete, slot_to_insert, slot_to_set}
-use Rattle.ild_path_inward.proofs.Inwarding.{stopped_front}
-use Rattle.ild_path_place.specs.Places.{IsKept, SlotIs, holder_of_path, path_fault, stop_number}
+use Rattle.ild_path_place.specs.Places.{IsKept, SlotIs, holder_of_path, path_fault}
 use Rattle.ild_path_place.specs.inside.Slots.{SlotAnswer, part_slot}
-use Rattle.ild_path_place.specs.declared.refusal.Refusal.TheVariants as R
+use Rattle.ild_path_rules.specs.declared.delete.Refusal.TheVariants as R
 use Rattle.ild_path_place.specs.declared.verb.Verb.{Verb}
 use Rattle.ild_path_place.specs.declared.verb.Verb.TheVariants as V
 use Rattle.ild_schema.specs.declared.number.Slot.{Slot}
@@ -165,22 +164,6 @@ module _ (rows : List Row) where
     whole_at : at rows p whole ≡ part (seen rows q) s
     whole_at = paths_split rows p front (s ∷ []) ∙ ap (option_and_then (λ r. at rows r (s ∷ []))) e ∙ at_end q s
 
-    whole_stops : stopped rows p whole ≡ stopped rows q (s ∷ [])
-    whole_stops = stopped_front rows front (s ∷ []) p q e
-
-    lengths : length whole ≡ suc (length front)
-    lengths = let x = ends front s in let many = x.many in ap length x.is ∙ omega (arith, many)
-
-    read_some : (slot : Slot) (o : Option InSlot) → part (seen rows q) s ≡ o → option_map (λ (r : InSlot). r.0) o ≡ Some slot → stop_number (length whole) (stopped rows p whole).left ≡ None
-    read_some slot None is own = absurd (none-some slot own)
-    read_some slot (Some r) is own = ap (λ (z : Stop). stop_number (length whole) z.left) (whole_stops ∙ ap (λ o. option_map_or (λ x. stopped rows x []) o (record { part = q; left = s ∷ [] })) is)
-
-    read_none : (o : Option InSlot) → part (seen rows q) s ≡ o → option_map (λ (r : InSlot). r.0) o ≡ None → stop_number (length whole) (stopped rows p whole).left ≡ Some (length front)
-    read_none (Some r) is own = absurd (none-some r.0 (sym own))
-    read_none None is own =
-        let n : length whole - 1 ≡ length front = (let all = lengths in omega (arith, all)) in
-        ap (λ (z : Stop). stop_number (length whole) z.left) (whole_stops ∙ ap (λ o. option_map_or (λ x. stopped rows x []) o (record { part = q; left = s ∷ [] })) is) ∙ ap (λ (i : ℕ). Some i) n
-
     slot_there : (slot : Slot) → part_slot rows q s ≡ Some slot → option_map (λ (r : InSlot). r.0) (at rows p whole) ≡ Some slot
     slot_there slot own = ap (option_map (λ (r : InSlot). r.0)) whole_at ∙ own
 
@@ -198,7 +181,6 @@ module _ (rows : List Row) where
         ap (λ (z : List (List ℕ)). new_slot rows p (ins_at z (tt {0}))) x.is ∙ sym (ap (λ (z : List (List ℕ)). option_and_then (λ (l : Holder × List ℕ). slot_to_insert l.0 l.1) (holder_of_path rows p z)) x.is) ∙ new_is slot_to_insert
 
     pub is_allowed : (verb : Verb) (slot : Slot) → SlotAnswer rows q s verb (Ok slot) → IsAllowed p whole verb slot
-    is_allowed V.Read slot own = record { allowed = read_some slot (part (seen rows q) s) refl own; may_go = λ kept. kept; slot_is = slot_there slot own }
     is_allowed V.Set slot own =
         let x = ends front s in
         record { allowed = set_of p whole x.first x.more x.is ∙ allowed front s p (λ h t. is_some (slot_to_set h t)) q e (some_is _ slot own); may_go = λ kept. kept; slot_is = set_slot ∙ own }
@@ -214,13 +196,11 @@ module _ (rows : List Row) where
         }
 
     pub is_nowhere : (verb : Verb) → SlotAnswer rows q s verb (Err R.Path) → path_fault rows p whole verb ≡ Some (length front)
-    is_nowhere V.Read own = read_none (part (seen rows q) s) refl own
     is_nowhere V.Set own = let x = ends front s in set_of p whole x.first x.more x.is ∙ refused front s p (λ h t. is_some (slot_to_set h t)) q e (none_is _ own)
     is_nowhere V.Ins own = let x = ends front s in ins_of p whole x.first x.more x.is ∙ refused front s p (λ h t. is_some (slot_to_insert h t)) q e (none_is _ own)
     is_nowhere V.Del own = let x = ends front s in del_of p whole x.first x.more x.is ∙ refused front s p (λ h t. may_delete (refusal_to_delete h t)) q e (ap may_delete own)
 
     pub is_kept : (verb : Verb) → SlotAnswer rows q s verb (Err R.Mismatch) → IsKept rows p whole verb
-    is_kept V.Read own = own
     is_kept V.Set own = own
     is_kept V.Ins own = own
     is_kept V.Del own = λ is_key. let c = del_is is_key p q front s e in c.1 ∙ ap (unless_kept c.0) own
@@ -233,17 +213,6 @@ module _ (rows : List Row) where
     own = e ∙ ap (λ (xs : List (List ℕ)). record { part = r; left = xs }) is
 
     by : (verb : Verb) → path_fault rows p (front ++ s ∷ []) verb ≡ Some (length front - length (y ∷ ys))
-    by V.Read =
-        let x = ends front s in
-        let many = x.many in
-        let m : length (front ++ s ∷ []) ≡ suc (length front) = ap length x.is ∙ omega (arith, many) in
-        let l = more_length (y ∷ ys) in
-        let n : length (front ++ s ∷ []) - length ((y ∷ ys) ++ s ∷ []) ≡ length front - length (y ∷ ys) = omega (arith, m, l) in
-        ap (λ (z : Stop). stop_number (length (front ++ s ∷ [])) z.left) (stops_more front (s ∷ []) p r y ys own) ∙ ap (λ (i : ℕ). Some i) n
-      where
-        more_length : (ts : List (List ℕ)) → length (ts ++ s ∷ []) ≡ suc (length ts)
-        more_length [] = refl
-        more_length (u ∷ us) = ap suc (more_length us)
     by V.Set = let x = ends front s in set_of p (front ++ s ∷ []) x.first x.more x.is ∙ nowhere front s p (λ h t. is_some (slot_to_set h t)) r y ys own
     by V.Ins = let x = ends front s in ins_of p (front ++ s ∷ []) x.first x.more x.is ∙ nowhere front s p (λ h t. is_some (slot_to_insert h t)) r y ys own
     by V.Del = let x = ends front s in del_of p (front ++ s ∷ []) x.first x.more x.is ∙ nowhere front s p (λ h t. may_delete (refusal_to_delete h t)) r y ys own

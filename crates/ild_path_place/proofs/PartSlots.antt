@@ -9,7 +9,7 @@ use Rattle.ild_data.specs.Data.{Data, items_list, members_list}
 use Rattle.ild_data.specs.Key.{same_text, value_at}
 use Rattle.ild_path_edits.specs.Table.{declared_slot, if_absent, new_index, slot_left_out, slot_to_insert, slot_to_set}
 use Rattle.ild_path_place.specs.inside.Slots.{IsPartSlot, IsSlotOr, KeySlot}
-use Rattle.ild_path_place.specs.declared.refusal.Refusal.{Refusal}
+use Rattle.ild_path_rules.specs.declared.delete.Refusal.{Refusal}
 use Rattle.ild_path_place.specs.declared.verb.Verb.{Verb}
 use Rattle.ild_path_place.specs.declared.verb.Verb.TheVariants as V
 use Rattle.ild_schema.specs.Legible.{IsLegible}
@@ -218,7 +218,5 @@ pub key_fits : (rows : List Row) (slot : Slot) → IsPartSlot rows slot → (the
 key_fits rows slot own there V.Set r is = subst (λ (z : Result Slot Refusal). IfOk z (IsPartSlot rows)) (sym is) own
 key_fits rows slot own true V.Ins r is = subst (λ (z : Result Slot Refusal). IfOk z (IsPartSlot rows)) (sym is) tt
 key_fits rows slot own false V.Ins r is = subst (λ (z : Result Slot Refusal). IfOk z (IsPartSlot rows)) (sym is) own
-key_fits rows slot own true V.Read r is = subst (λ (z : Result Slot Refusal). IfOk z (IsPartSlot rows)) (sym is) own
-key_fits rows slot own false V.Read r is = subst (λ (z : Result Slot Refusal). IfOk z (IsPartSlot rows)) (sym is) tt
 key_fits rows slot own true V.Del r is = subst (λ (z : Result Slot Refusal). IfOk z (IsPartSlot rows)) (sym is) own
 key_fits rows slot own false V.Del r is = subst (λ (z : Result Slot Refusal). IfOk z (IsPartSlot rows)) (sym is) tt

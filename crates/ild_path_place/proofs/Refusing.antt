@@ -34,8 +34,8 @@ use Rattle.ild_path_place.specs.declared.ending.Found.{Found}
 use Rattle.ild_path_place.specs.declared.fault.PathFault.{PathFault}
 use Rattle.ild_path_place.specs.declared.fault.PathFault.TheVariants as F
 use Rattle.ild_path_place.specs.declared.place.Place.{Place}
-use Rattle.ild_path_place.specs.declared.refusal.Refusal.{Refusal}
-use Rattle.ild_path_place.specs.declared.refusal.Refusal.TheVariants as R
+use Rattle.ild_path_rules.specs.declared.delete.Refusal.{Refusal}
+use Rattle.ild_path_rules.specs.declared.delete.Refusal.TheVariants as R
 use Rattle.ild_path_place.specs.declared.verb.Verb.{Verb}
 use Rattle.ild_path_place.specs.declared.verb.Verb.TheVariants as Y
 use Rattle.ild_path_room.specs.ValueSlot.{IsValueSlot, value_in}
@@ -181,5 +181,4 @@ pub whole_breaks : (slot u : Slot) (verb : Verb) (h : List ℕ → List ℕ) (ro
 whole_breaks slot u verb h rows at room t m n (Ok place) x = tt
 whole_breaks slot u Y.Ins h rows at room t m n (Err e) x = subst (λ (z : PathFault). RefusesBroken {A = Place} h rows at room u t m (Err z) n) (sym x) tt
 whole_breaks slot u Y.Del h rows at room t m n (Err e) x = subst (λ (z : PathFault). RefusesBroken {A = Place} h rows at room u t m (Err z) n) (sym x) tt
-whole_breaks slot u Y.Read h rows at room t m n (Err e) x = absurd x
 whole_breaks slot u Y.Set h rows at room t m n (Err e) x = absurd x

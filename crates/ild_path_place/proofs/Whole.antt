@@ -23,13 +23,6 @@ module _ (h : List ℕ → List ℕ) (rows : List Row) (was : List (List ℕ)) (
   )
 
   answer : (slot : Slot) → slot ≡ p.0 → (verb : Verb) (r : Result Place PathFault) → LocatesWhole slot verb r → LocateAnswer h rows was p [] verb m r m
-  answer slot s V.Read (Ok place) x =
-      let o = own place x.1 x.2 in
-      record { verb_is = x.0; allowed = refl; may_go = λ k. k; inner = p; less = 96; hops_are = o.0; rest = []; split = o.1 ∙ nil (through place.hops.items); ends = o.2; top = λ end. x.1; slot_is = ap (λ (z : Slot). Some z) (sym (x.3 ∙ s)); key = λ is_key tests. x.4; room_is = x.5; hole_is = x.6 }
-    where
-      nil : (xs : List (List ℕ)) → xs ≡ xs ++ []
-      nil [] = refl
-      nil (x ∷ xs) = ap (λ ys. x ∷ ys) (nil xs)
   answer slot s V.Set (Ok place) x =
       let o = own place x.1 x.2 in
       record { verb_is = x.0; allowed = refl; may_go = λ k. k; inner = p; less = 96; hops_are = o.0; rest = []; split = o.1 ∙ nil (through place.hops.items); ends = o.2; top = λ end. x.1; slot_is = ap (λ (z : Slot). Some z) (sym (x.3 ∙ s)); key = λ is_key tests. x.4; room_is = x.5; hole_is = x.6 }
@@ -39,7 +32,6 @@ module _ (h : List ℕ → List ℕ) (rows : List Row) (was : List (List ℕ)) (
       nil (x ∷ xs) = ap (λ ys. x ∷ ys) (nil xs)
   answer slot s V.Ins (Err e) x = subst (λ (z : PathFault). LocateAnswer h rows was p [] V.Ins m (Err z) m) (sym x) refl
   answer slot s V.Del (Err e) x = subst (λ (z : PathFault). LocateAnswer h rows was p [] V.Del m (Err z) m) (sym x) (λ is_key. refl)
-  answer slot s V.Read (Err e) x = absurd x
   answer slot s V.Set (Err e) x = absurd x
   answer slot s V.Ins (Ok place) x = absurd x
   answer slot s V.Del (Ok place) x = absurd x

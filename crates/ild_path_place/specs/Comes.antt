@@ -6,5 +6,4 @@ use Rattle.ild_path_place.specs.declared.verb.Verb.TheVariants as V
 abbrev pub comes : Verb → Bool
 comes V.Set = true
 comes V.Ins = true
-comes V.Read = false
 comes V.Del = false

@@ -4,7 +4,7 @@ use Rattle.ild_path_judged.specs.Place.{last_of}
 use Rattle.ild_path_place.specs.declared.verb.Verb.{Verb}
 use Rattle.ild_path_place.specs.declared.verb.Verb.TheVariants as V
 use Rattle.ild_path_room.specs.Hole.{TellsHole}
-use Rattle.ild_path_room.specs.declared.hole.PartEdit.TheVariants as E
+use Rattle.ild_path_room.specs.declared.hole.PartMotion.TheVariants as E
 use Rattle.ild_schema.specs.declared.row.Row.{Row}
 use Rattle.ild_typed.specs.At.{InSlot}
 
@@ -13,7 +13,6 @@ abbrev pub VerbHole : List Row → InSlot → List ℕ → Verb → Bool → Typ
 VerbHole rows q s V.Set b = TellsHole rows q s E.Comes b
 VerbHole rows q s V.Ins b = TellsHole rows q s E.Comes b
 VerbHole rows q s V.Del b = TellsHole rows q s E.Goes b
-VerbHole rows q s V.Read b = b ≡ false
 
 -- at the end of a path
 abbrev pub HoleIs : List Row → InSlot → List (List ℕ) → Verb → Bool → Type 0

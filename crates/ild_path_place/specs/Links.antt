@@ -12,9 +12,8 @@ use Rattle.ild_typed.specs.At.{InSlot}
 use Rattle.ild_view.specs.View.{IsView, slot_of, table_of}
 use Rattle.ild_view.specs.declared.view.View.{View}
 
--- the whole of a value is read or set alone
+-- the whole of a value is set alone
 abbrev pub may_be : End → Verb → Bool
-may_be D.Whole V.Read = true
 may_be D.Whole V.Set = true
 may_be D.Whole V.Ins = false
 may_be D.Whole V.Del = false

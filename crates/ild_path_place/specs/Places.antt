@@ -1,6 +1,6 @@
 -- The place at which a path ends in a value, and why there is none (IPLD Schemas; IPLD HashMap). The value is plain: of the HAMTs on the
 -- path it has the entries.
-use Rattle.std.specs.Prelude.{◌≡◌, ℕ, ◌+◌, ◌-◌, ◌≤◌, Bool, true, false, IsUtf8, List, [], ◌∷◌, ◌++◌, length, Option, Some, None, Result, Ok, Err, option_map}
+use Rattle.std.specs.Prelude.{◌≡◌, ℕ, ◌+◌, ◌≤◌, Bool, true, false, IsUtf8, List, [], ◌∷◌, ◌++◌, Option, Some, None, Result, Ok, Err, option_map}
 use Rattle.ild_data.specs.Data.{Data}
 use Rattle.ild_data.specs.Key.{value_at}
 use Rattle.ild_data.specs.Trie.{TrieSlot}
@@ -9,7 +9,7 @@ use Rattle.ild_edges.specs.Store.{Moment}
 use Rattle.ild_hamt.specs.Descending.{IsTrailOf}
 use Rattle.ild_hamt.specs.declared.trail.Trail.{Trail}
 use Rattle.ild_path_edits.specs.Edit.{change, del_at, ins_at, new_slot, set_at}
-use Rattle.ild_path_edits.specs.Stop.{place_fault, stopped}
+use Rattle.ild_path_edits.specs.Stop.{place_fault}
 use Rattle.ild_path_enter.specs.Enters.{EntryThere}
 use Rattle.ild_path_entered.specs.Entered.{IsEntered}
 use Rattle.ild_path_entry.specs.declared.entry.Entry.{Entry}
@@ -44,14 +44,8 @@ use Rattle.ild_path_place.specs.declared.verb.Verb.TheVariants as V
 
 -- ---- no place
 
--- the segment at which a path to be read stops
-abbrev pub stop_number : ℕ → List (List ℕ) → Option ℕ
-stop_number n [] = None
-stop_number n (s ∷ ss) = Some (n - length (s ∷ ss))
-
 -- the segment at which there is no place for what is to be done
 abbrev pub path_fault : List Row → InSlot → List (List ℕ) → Verb → Option ℕ
-path_fault rows p path V.Read = stop_number (length path) (stopped rows p path).left
 path_fault rows p path V.Set = place_fault rows p (set_at path (tt {0}))
 path_fault rows p path V.Ins = place_fault rows p (ins_at path (tt {0}))
 path_fault rows p path V.Del = place_fault {X = Unit {0}} rows p (del_at path)
@@ -87,11 +81,11 @@ EndsAt h rows was room q rest (D.AtKey front trail entry) = IsAtKey h rows was r
 
 -- ---- what a place tells
 
--- the slot of the part that comes, or of the one that is there
+-- the slot of the part that comes, or of the one that goes
 abbrev pub SlotIs : List Row → InSlot → List (List ℕ) → Verb → Slot → Type 0
 SlotIs rows p path V.Set slot = new_slot rows p (set_at path (tt {0})) ≡ Some slot
 SlotIs rows p path V.Ins slot = new_slot rows p (ins_at path (tt {0})) ≡ Some slot
-SlotIs rows p path verb slot = option_map (λ q. q.0) (at rows p path) ≡ Some slot
+SlotIs rows p path V.Del slot = option_map (λ q. q.0) (at rows p path) ≡ Some slot
 
 abbrev pub holder_of_path : List Row → InSlot → List (List ℕ) → Option (Holder × List ℕ)
 holder_of_path rows p [] = None
@@ -135,8 +129,6 @@ pub record Locates (h : List ℕ → List ℕ) (rows : List Row) (was : List (Li
 
 -- with the empty path
 abbrev pub LocatesWhole : Slot → Verb → Result Place PathFault → Type 0
-LocatesWhole slot V.Read (Ok place) = (place.verb ≡ V.Read) × (place.hops.items ≡ []) × (place.end ≡ D.Whole)
-    × (place.slot ≡ slot) × (place.key_fits ≡ true) × (place.room ≡ Some 96) × (place.hole ≡ false)
 LocatesWhole slot V.Set (Ok place) = (place.verb ≡ V.Set) × (place.hops.items ≡ []) × (place.end ≡ D.Whole)
     × (place.slot ≡ slot) × (place.key_fits ≡ true) × (place.room ≡ Some 96) × (place.hole ≡ false)
 LocatesWhole slot V.Ins (Err e) = e ≡ F.Path 0

@@ -7,7 +7,7 @@ ghost use Rattle.ild_typed.specs.Judged.{is_hole};
 ghost use Rattle.ild_view.specs.View.{IsView, slot_of, table_of};
 
 use crate::verb::Verb;
-use ild_path_room::{PartEdit, leaves_hole};
+use ild_path_room::{PartMotion, leaves_hole};
 use ild_view::View;
 
 /// Whether a holder that has no hole has one with the part that comes to a segment, or without the one that goes.
@@ -16,8 +16,7 @@ pub(crate) fn leaves(holder: &View<'_>, segment: &str, verb: Verb) -> bool
         → VerbHole (table_of holder.now) (slot_of holder.now, f) segment.now verb result }
 {
     match verb {
-        Verb::Read => false,
-        Verb::Set | Verb::Ins => leaves_hole(holder, segment, PartEdit::Comes),
-        Verb::Del => leaves_hole(holder, segment, PartEdit::Goes),
+        Verb::Set | Verb::Ins => leaves_hole(holder, segment, PartMotion::Comes),
+        Verb::Del => leaves_hole(holder, segment, PartMotion::Goes),
     }
 }

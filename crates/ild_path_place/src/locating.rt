@@ -41,7 +41,7 @@ fn whole<'b>(alloc: Global, root: View<'b>, verb: Verb) -> Result<Place<'b>, Pat
     ensures done { IfOk result (λ place. verb_in place ≡ verb) }
 {
     match verb {
-        Verb::Read | Verb::Set => Ok(Place {
+        Verb::Set => Ok(Place {
             root,
             verb,
             hops: Vec::new(alloc),

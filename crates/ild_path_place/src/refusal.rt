@@ -1,27 +1,18 @@
 //! Whether something may be done at a segment.
 ghost use Rattle.std.specs.Prelude.{IfOk};
-ghost use Rattle.ild_path_place.specs.inside.Slots.{IsPartSlot, IsSlotOr, KeySlot, SlotAnswer};
-ghost use Rattle.ild_path_place.specs.declared.verb.Verb.TheVariants.{Read, Del};
+ghost use Rattle.ild_path_place.specs.inside.Slots.{IsPartSlot, IsSlotOr, KeySlot, SlotAnswer, part_slot};
+ghost use Rattle.ild_path_place.specs.declared.verb.Verb.TheVariants.{Del};
 ghost use Rattle.ild_schema.specs.Value.{Value};
 ghost use Rattle.ild_view.specs.View.{IsView, slot_of, table_of};
 
 use crate::verb::Verb;
-use ild_path_rules::{DeleteFault, refusal_to_delete, slot_to_insert, slot_to_set};
+use ild_path_rules::{Refusal, refusal_to_delete, slot_to_insert, slot_to_set};
 use ild_schema::Slot;
 use ild_view::View;
 
-/// Why nothing may be done at a segment.
-#[derive(Clone, Copy, Debug, PartialEq, Eq)]
-pub(crate) enum Refusal {
-    /// No part is there, or none may come there.
-    Path,
-    /// What is there can't be deleted.
-    Mismatch,
-}
-
 // The slot of the part at a segment.
 fn slot_there(holder: &View<'_>, segment: &str) -> Result<Slot, Refusal>
-    ensures answer { (f : Value) → IsView holder.now f → SlotAnswer (table_of holder.now) (slot_of holder.now, f) segment.now Read result }
+    ensures answer { (f : Value) → IsView holder.now f → IsSlotOr (part_slot (table_of holder.now) (slot_of holder.now, f) segment.now) result }
     ensures part { IfOk result (IsPartSlot (table_of holder.now)) }
 {
     match holder.part(segment) {
@@ -36,8 +27,7 @@ fn slot_to_delete(holder: &View<'_>, segment: &str) -> Result<Slot, Refusal>
     ensures part { IfOk result (IsPartSlot (table_of holder.now)) }
 {
     match refusal_to_delete(holder, segment) {
-        Some(DeleteFault::Path) => Err(Refusal::Path),
-        Some(DeleteFault::Mismatch) => Err(Refusal::Mismatch),
+        Some(refusal) => Err(refusal),
         None => slot_there(holder, segment),
     }
 }
@@ -52,14 +42,13 @@ fn slot_or(slot: Option<Slot>) -> Result<Slot, Refusal>
     }
 }
 
-/// The slot of the part that comes to a segment, or of the one that is there, of a holder that is no HAMT.
+/// The slot of the part that comes to a segment, or of the one that goes, of a holder that is no HAMT.
 pub(crate) fn slot_in_block(holder: &View<'_>, segment: &str, verb: Verb) -> Result<Slot, Refusal>
     ensures answer { (f : Value) → IsView holder.now f → SlotAnswer (table_of holder.now) (slot_of holder.now, f) segment.now verb result }
     ensures part { IfOk result (IsPartSlot (table_of holder.now)) }
 {
     holder.schema().recall();
     match verb {
-        Verb::Read => slot_there(holder, segment),
         Verb::Set => slot_or(slot_to_set(holder, segment)),
         Verb::Ins => slot_or(slot_to_insert(holder, segment)),
         Verb::Del => slot_to_delete(holder, segment),
@@ -73,6 +62,6 @@ pub(crate) fn slot_at_key(slot: Slot, there: bool, verb: Verb) -> Result<Slot, R
     match verb {
         Verb::Set => Ok(slot),
         Verb::Ins => { if there { Err(Refusal::Path) } else { Ok(slot) } }
-        Verb::Read | Verb::Del => { if there { Ok(slot) } else { Err(Refusal::Path) } }
+        Verb::Del => { if there { Ok(slot) } else { Err(Refusal::Path) } }
     }
 }

@@ -5,11 +5,9 @@ ghost use Rattle.ild_path_place.specs.Comes.{comes};
 /// What is done at a place.
 #[derive(Clone, Copy, Debug, PartialEq, Eq)]
 pub enum Verb {
-    /// The part there is read.
-    Read,
     /// A part is set, there before or not.
     Set,
-    /// A part is inserted where none is.
+    /// A part is inserted where none is, or an element before the one that is there.
     Ins,
     /// The part there is deleted.
     Del,
@@ -21,6 +19,6 @@ pub(crate) fn comes(verb: Verb) -> bool
 {
     match verb {
         Verb::Set | Verb::Ins => true,
-        Verb::Read | Verb::Del => false,
+        Verb::Del => false,
     }
 }

@@ -10,8 +10,8 @@ use Rattle.ild_data.specs.Key.{same_text}
 use Rattle.ild_path_edits.specs.Table.{delete_part}
 use Rattle.ild_path_room.specs.Hole.{TellsHole, is_tuple, stands_as_tuple, told_at}
 use Rattle.ild_path_room.specs.Room.{Coming, by_set, by_insert, brought}
-use Rattle.ild_path_room.specs.declared.hole.PartEdit.{PartEdit}
-use Rattle.ild_path_room.specs.declared.hole.PartEdit.TheVariants as E
+use Rattle.ild_path_room.specs.declared.hole.PartMotion.{PartMotion}
+use Rattle.ild_path_room.specs.declared.hole.PartMotion.TheVariants as E
 use Rattle.ild_schema.specs.Parts.{part_named}
 use Rattle.ild_schema.specs.Slots.{form_of}
 use Rattle.ild_schema.specs.Value as V
@@ -161,7 +161,7 @@ no_field s x i (f ∷ fs) (o ∷ os) e =
 -- ---- what the number of a field and the count of those present tell
 
 -- what the fields become
-abbrev edited : PartEdit → Value → List ℕ → List Field → List (Option Value) → List (Option Value)
+abbrev edited : PartMotion → Value → List ℕ → List Field → List (Option Value) → List (Option Value)
 edited E.Comes w s fs os = set_field s (Some w) fs os
 edited E.Goes w s fs os = set_field s None fs os
 
@@ -179,7 +179,7 @@ less_one n (suc c) = by (nat_lt n c) refl ∙ ap (λ m. nat_lt n m) (one_back c)
 from_none : (c : ℕ) → c ≡ 0 + c
 from_none c = omega (arith)
 
-fields_told : (e : PartEdit) (w : Value) (s : List ℕ) (fs : List Field) (os : List (Option Value)) (o : Option ℕ) → position_from (Named s) 0 fs ≡ o → length os ≡ length fs → Holed os ≡ false
+fields_told : (e : PartMotion) (w : Value) (s : List ℕ) (fs : List Field) (os : List (Option Value)) (o : Option ℕ) → position_from (Named s) 0 fs ≡ o → length os ≡ length fs → Holed os ≡ false
     → told_at e o (Some (present_of os)) ≡ Holed (edited e w s fs os)
 fields_told E.Comes w s fs os None is long none = sym (ap (λ ys. Holed ys) (no_field s (Some w) 0 fs os is) ∙ none)
 fields_told E.Comes w s fs os (Some n) is long none = ap (λ m. nat_lt m n) (from_none (present_of os)) ∙ sym (comes s w 0 n fs os long is none)
@@ -195,7 +195,7 @@ fields_long P (f ∷ fs) [] h = absurd h
 fields_long P (f ∷ fs) (Some v ∷ os) h = ap (λ n. suc n) (fields_long P fs os h.1)
 fields_long P (f ∷ fs) (None ∷ os) h = ap (λ n. suc n) (fields_long P fs os h.1)
 
-abbrev made : PartEdit → Coming → Value → Holder → List ℕ → Value
+abbrev made : PartMotion → Coming → Value → Holder → List ℕ → Value
 made E.Comes how w h s = value_of (brought how w h s)
 made E.Goes how w h s = value_of (delete_part h s)
 
@@ -218,17 +218,17 @@ plain_hole (D.Struct s) (struct os) h = plain_struct s.form os h
 plain_hole d v h = refl
 
 -- what has no parts stays
-nothing_made : (e : PartEdit) (how : Coming) (w v : Value) (s : List ℕ) → made e how w (nothing v) s ≡ v
+nothing_made : (e : PartMotion) (how : Coming) (w v : Value) (s : List ℕ) → made e how w (nothing v) s ≡ v
 nothing_made E.Comes by_set w v s = refl
 nothing_made E.Comes by_insert w v s = refl
 nothing_made E.Goes how w v s = refl
 
-struct_made : (e : PartEdit) (how : Coming) (w : Value) (st : StructDef) (os : Optionals) (s : List ℕ) → made e how w (struct_holder (Some (D.Struct st)) os) s ≡ struct (optionals_of (edited e w s st.fields (optionals_list os)))
+struct_made : (e : PartMotion) (how : Coming) (w : Value) (st : StructDef) (os : Optionals) (s : List ℕ) → made e how w (struct_holder (Some (D.Struct st)) os) s ≡ struct (optionals_of (edited e w s st.fields (optionals_list os)))
 struct_made E.Comes by_set w st os s = refl
 struct_made E.Comes by_insert w st os s = refl
 struct_made E.Goes how w st os s = refl
 
-none_told : (e : PartEdit) (o : Option ℕ) → told_at e o None ≡ false
+none_told : (e : PartMotion) (o : Option ℕ) → told_at e o None ≡ false
 none_told E.Comes None = refl
 none_told E.Comes (Some n) = refl
 none_told E.Goes None = refl
@@ -243,7 +243,7 @@ abbrev fields_in : TypeDef → List Field
 fields_in (D.Struct r) = r.fields
 fields_in d = []
 
-module _ (rows : List Row) (slot : Slot) (st : StructDef) (form : form_of rows slot ≡ Some (D.Struct st)) (tuple : stands_as_tuple st.form ≡ true) (e : PartEdit) (how : Coming) (w : Value) (s : List ℕ) where
+module _ (rows : List Row) (slot : Slot) (st : StructDef) (form : form_of rows slot ≡ Some (D.Struct st)) (tuple : stands_as_tuple st.form ≡ true) (e : PartMotion) (how : Coming) (w : Value) (s : List ℕ) where
   abbrev Told : Holder → Type 0
   Told h = told_at e (part_named s (D.Struct st)) (count_in h) ≡ is_hole (form_of rows slot) (made e how w h s)
 
@@ -287,14 +287,14 @@ module _ (rows : List Row) (slot : Slot) (st : StructDef) (form : form_of rows s
 
 -- ---- the answer
 
-tells : (rows : List Row) (p : InSlot) (s : List ℕ) (e : PartEdit) (b : Bool) → ((how : Coming) (w : Value) → b ≡ is_hole (form_of rows p.0) (made e how w (seen rows p) s)) → TellsHole rows p s e b
+tells : (rows : List Row) (p : InSlot) (s : List ℕ) (e : PartMotion) (b : Bool) → ((how : Coming) (w : Value) → b ≡ is_hole (form_of rows p.0) (made e how w (seen rows p) s)) → TellsHole rows p s e b
 tells rows p s E.Comes b h = λ how w. h how w
 tells rows p s E.Goes b h = h by_set null
 
-pub tells_plain : (rows : List Row) (p : InSlot) (s : List ℕ) (e : PartEdit) (d : TypeDef) → form_of rows p.0 ≡ Some d → is_tuple d ≡ false → TellsHole rows p s e false
+pub tells_plain : (rows : List Row) (p : InSlot) (s : List ℕ) (e : PartMotion) (d : TypeDef) → form_of rows p.0 ≡ Some d → is_tuple d ≡ false → TellsHole rows p s e false
 tells_plain rows p s e d form plain = tells rows p s e false (λ how w. sym (ap (λ o. is_hole o (made e how w (seen rows p) s)) form ∙ plain_hole d (made e how w (seen rows p) s) plain))
 
-pub tells_tuple : (rows : List Row) (p : InSlot) (s : List ℕ) (e : PartEdit) (d : TypeDef) (o c : Option ℕ) → form_of rows p.0 ≡ Some d → is_tuple d ≡ true → OfType rows p.0 p.1 → is_hole (form_of rows p.0) p.1 ≡ false
+pub tells_tuple : (rows : List Row) (p : InSlot) (s : List ℕ) (e : PartMotion) (d : TypeDef) (o c : Option ℕ) → form_of rows p.0 ≡ Some d → is_tuple d ≡ true → OfType rows p.0 p.1 → is_hole (form_of rows p.0) p.1 ≡ false
     → o ≡ option_and_then (part_named s) (form_of rows p.0) → c ≡ count_in (seen rows p) → TellsHole rows p s e (told_at e o c)
 tells_tuple rows p s e (D.Struct st) o c form tuple typed none number count =
     tells rows p s e (told_at e o c)

@@ -11,9 +11,9 @@ use crate::form::form_of;
 use ild_schema::{StructForm, TypeDef};
 use ild_view::View;
 
-/// What an edit does to a part of a holder.
+/// Whether an edit brings a part to a holder or takes one from it.
 #[derive(Clone, Copy)]
-pub enum PartEdit {
+pub enum PartMotion {
     /// It is set or inserted.
     Comes,
     /// It is deleted.
@@ -47,16 +47,16 @@ fn number_of(view: &View<'_>, name: &str) -> Option<usize>
 }
 
 // What the number of a field and the count of those that are present tell.
-fn told(edit: PartEdit, number: Option<usize>, count: Option<u64>) -> bool
-    ensures { result ≡ told_at edit number count }
+fn told(motion: PartMotion, number: Option<usize>, count: Option<u64>) -> bool
+    ensures { result ≡ told_at motion number count }
 {
     let (Some(number), Some(count)) = (number, count) else {
         return false;
     };
     let place = number as u64;
-    match edit {
-        PartEdit::Comes => place > count,
-        PartEdit::Goes => place < count.saturating_sub(1),
+    match motion {
+        PartMotion::Comes => place > count,
+        PartMotion::Goes => place < count.saturating_sub(1),
     }
 }
 
@@ -64,11 +64,11 @@ fn told(edit: PartEdit, number: Option<usize>, count: Option<u64>) -> bool
 /// before a present one (IPLD Schemas, "Struct Representation Strategies"). In a tuple the present fields stand in front, so their
 /// count tells it.
 #[tactic(auto, using(crate::proofs::Holes::tells_plain))]
-pub fn leaves_hole(view: &View<'_>, segment: &str, edit: PartEdit) -> bool
-    ensures { (f : Value) → IsView view.now f → is_hole (form_of (table_of view.now) (slot_of view.now)) f ≡ false → TellsHole (table_of view.now) (slot_of view.now, f) segment.now edit result }
+pub fn leaves_hole(view: &View<'_>, segment: &str, motion: PartMotion) -> bool
+    ensures { (f : Value) → IsView view.now f → is_hole (form_of (table_of view.now) (slot_of view.now)) f ≡ false → TellsHole (table_of view.now) (slot_of view.now, f) segment.now motion result }
 {
     if !is_tuple(form_of(view)) {
         return false;
     }
-    told(edit, number_of(view, segment), view.len())
+    told(motion, number_of(view, segment), view.len())
 }

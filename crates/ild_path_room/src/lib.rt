@@ -8,7 +8,7 @@ mod room;
 mod slot;
 
 pub use form::levels;
-pub use hole::{PartEdit, leaves_hole};
+pub use hole::{PartMotion, leaves_hole};
 pub use laws::rooms_are_left_along_the_path;
 pub use room::room_left;
 pub use slot::value_slot;

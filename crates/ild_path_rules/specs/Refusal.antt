@@ -1,11 +1,11 @@
--- Why a part can't be deleted, as the replies to a script name it.
+-- Why nothing may be done at a segment, as the replies to a script name it; and why a part can't be deleted.
 use Rattle.std.specs.Prelude.{Bool, cond, Option, Some, None}
-use Rattle.ild_path_rules.specs.declared.delete.DeleteFault.{DeleteFault}
-use Rattle.ild_path_rules.specs.declared.delete.DeleteFault.TheVariants as R
+use Rattle.ild_path_rules.specs.declared.delete.Refusal.{Refusal}
+use Rattle.ild_path_rules.specs.declared.delete.Refusal.TheVariants as R
 use Rattle.ild_script.specs.declared.reply.No.{No}
 use Rattle.ild_script.specs.declared.reply.No.TheVariants as N
 
-abbrev pub refusal_of : DeleteFault → No
+abbrev pub refusal_of : Refusal → No
 refusal_of R.Path = N.Path
 refusal_of R.Mismatch = N.Mismatch
 

@@ -16,12 +16,12 @@ use crate::there::is_there;
 use ild_schema::StructDef;
 use ild_view::View;
 
-/// Why the part at a segment can't be deleted.
+/// Why nothing may be done at a segment.
 #[derive(Clone, Copy, Debug, PartialEq, Eq)]
-pub enum DeleteFault {
-    /// There is none.
+pub enum Refusal {
+    /// No part is there, or none may come there.
     Path,
-    /// Its holder can't be without it: it is a field that isn't optional, or the member of a union.
+    /// What is there can't be deleted, since its holder can't be without it: it is a field that isn't optional, or the member of a union.
     Mismatch,
 }
 
@@ -49,13 +49,13 @@ fn may_go(view: &View<'_>, segment: &str) -> bool
 }
 
 // Why a part can't be deleted, by whether it is there and whether its holder can be without it.
-fn fault(there: bool, free: bool) -> Option<DeleteFault>
+fn fault(there: bool, free: bool) -> Option<Refusal>
     ensures { option_map refusal_of result ≡ refusal there free }
 {
     match (there, free) {
-        (false, false) => Some(DeleteFault::Path),
-        (false, true) => Some(DeleteFault::Path),
-        (true, false) => Some(DeleteFault::Mismatch),
+        (false, false) => Some(Refusal::Path),
+        (false, true) => Some(Refusal::Path),
+        (true, false) => Some(Refusal::Mismatch),
         (true, true) => None,
     }
 }
@@ -63,7 +63,7 @@ fn fault(there: bool, free: bool) -> Option<DeleteFault>
 /// Why the part at a segment can't be deleted, or `None` where it can: an optional field, an entry or an element that is there. `Path`
 /// where no part is there, as in null, a scalar, a link, an enum or a unit, and at the root of a HAMT; `Mismatch` at another field
 /// that is present, and at the member that a union holds. An Any is what its data are.
-pub fn refusal_to_delete(view: &View<'_>, segment: &str) -> Option<DeleteFault>
+pub fn refusal_to_delete(view: &View<'_>, segment: &str) -> Option<Refusal>
     ensures { (f : Value) → IsView view.now f → option_map refusal_of result ≡ refusal_to_delete (seen (table_of view.now) (slot_of view.now, f)) segment.now }
 {
     fault(is_there(view, segment), may_go(view, segment))

@@ -10,7 +10,7 @@ mod named;
 mod set;
 mod there;
 
-pub use delete::{DeleteFault, refusal_to_delete};
+pub use delete::{Refusal, refusal_to_delete};
 pub use insert::slot_to_insert;
 pub use key::key_fits;
 pub use set::slot_to_set;

@@ -10,7 +10,7 @@ use Rattle.ild_path_judged.specs.Place.{bringing, hole_at, last_of, made_at}
 use Rattle.ild_path_place.specs.Holes.{HoleIs, VerbHole}
 use Rattle.ild_path_place.specs.declared.verb.Verb.TheVariants as V
 use Rattle.ild_path_room.specs.Hole.{TellsHole}
-use Rattle.ild_path_room.specs.declared.hole.PartEdit.TheVariants as E
+use Rattle.ild_path_room.specs.declared.hole.PartMotion.TheVariants as E
 use Rattle.ild_path_room.specs.Room.{Coming, brought, by_insert, by_set, slot_for}
 use Rattle.ild_path_tells.specs.Facts.{refusal_at, verb_of}
 use Rattle.ild_path_within.proofs.Splitting.{first_of_path}

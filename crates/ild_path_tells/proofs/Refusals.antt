@@ -1,14 +1,14 @@
 -- Why there is no place at the end of a path is why an edit is refused there.
-use Rattle.std.proofs.Common.{cond, ◌≡◌, ℕ, List, [], ◌∷◌, length, Bool, true, false, is_some, Option, Some, None, Result, Ok, Err, option_map, refl, ap, sym, ◌∙◌}
+use Rattle.std.proofs.Common.{cond, ◌≡◌, ℕ, List, [], ◌∷◌, Bool, true, false, is_some, Option, Some, None, Result, Ok, Err, refl, ap, sym, ◌∙◌}
 use Rattle.std.specs.Prelude.{option_and_then}
 use Rattle.std.specs.Option.{option_map_or}
 use Rattle.std.proofs.lemmas.Option.{none-some}
 use Rattle.ild_data.specs.Key.{same_text, value_at}
-use Rattle.ild_path_edits.proofs.Stops.{stops_tell, err_same}
+use Rattle.ild_path_edits.proofs.Stops.{err_same}
 use Rattle.ild_path_edits.specs.Edit.{del_in, unless_kept}
-use Rattle.ild_path_edits.specs.Stop.{fault_by, may_delete, part_along, stopped}
+use Rattle.ild_path_edits.specs.Stop.{fault_by, may_delete}
 use Rattle.ild_path_edits.specs.Table.{field_kept, if_present, never, refusal_to_delete, slot_to_insert, slot_to_set, unless_there}
-use Rattle.ild_path_place.specs.Places.{IsKept, SlotIs, path_fault, stop_number}
+use Rattle.ild_path_place.specs.Places.{IsKept, SlotIs, path_fault}
 use Rattle.ild_path_place.specs.declared.verb.Verb.{Verb}
 use Rattle.ild_path_place.specs.declared.verb.Verb.TheVariants as V
 use Rattle.ild_path_tells.specs.Facts.{refusal_at, unless_some}
@@ -19,7 +19,7 @@ use Rattle.ild_schema.specs.declared.row.Row.{Row}
 use Rattle.ild_schema.specs.Value.{Value}
 use Rattle.ild_script.specs.declared.reply.No.{No}
 use Rattle.ild_script.specs.declared.reply.No.TheVariants as N
-use Rattle.ild_typed.specs.At.{InSlot, at, last_holder}
+use Rattle.ild_typed.specs.At.{InSlot, last_holder}
 use Rattle.ild_typed.specs.Holder.{Holder, any_elements, any_entries, elements, entries, fields, member, nothing}
 use Rattle.ild_typed.specs.Segment.{held_as, index_of}
 
@@ -114,26 +114,15 @@ kept_by c (Some l) e = by (refusal_to_delete l.0 l.1) refl where
 -- ---- at the end of a path
 
 module _ (rows : List Row) (p : InSlot) where
-  there_is : (slot : Slot) (o : Option InSlot) → option_map (λ (q : InSlot). q.0) o ≡ Some slot → unless_some o ≡ None
-  there_is slot None e = absurd (none-some slot e)
-  there_is slot (Some q) e = refl
-
   -- where there is a place, nothing is refused
   pub allowed_at : (path : List (List ℕ)) (verb : Verb) (slot : Slot) → path_fault rows p path verb ≡ None → (IsKept rows p path verb → ⊥) → SlotIs rows p path verb slot → refusal_at rows p path verb ≡ None
-  allowed_at path V.Read slot free may is = there_is slot (at rows p path) is
   allowed_at path V.Set slot free may is = ap (λ (o : Option Slot). unless_some o) is
   allowed_at path V.Ins slot free may is = ap (λ (o : Option Slot). unless_some o) is
   allowed_at [] V.Del slot free may is = absurd (may (λ is_key. refl))
   allowed_at (s ∷ ss) V.Del slot free may is = goes _ _ _ (last_holder rows p s ss) free may
 
-  stops_by : (n k : ℕ) (q : InSlot) (left : List (List ℕ)) → stop_number n left ≡ Some k → unless_some (part_along q left) ≡ Some N.Path
-  stops_by n k q [] e = absurd (none-some k e)
-  stops_by n k q (s ∷ ss) e = refl
-
   -- where the path leads nowhere, it is refused
   pub nowhere_at : (path : List (List ℕ)) (verb : Verb) (k : ℕ) → path_fault rows p path verb ≡ Some k → refusal_at rows p path verb ≡ Some N.Path
-  nowhere_at path V.Read k e =
-      ap (λ (o : Option InSlot). unless_some o) (stops_tell rows 0 p path).0 ∙ stops_by (length path) k (stopped rows p path).part (stopped rows p path).left e
   nowhere_at [] V.Set k e = absurd (none-some k e)
   nowhere_at (s ∷ ss) V.Set k e = ap (λ (o : Option Slot). unless_some o) (none_comes slot_to_set _ _ k (last_holder rows p s ss) e)
   nowhere_at [] V.Ins k e = refl
@@ -143,7 +132,6 @@ module _ (rows : List Row) (p : InSlot) where
 
   -- what is there can't be deleted
   pub kept_at : (path : List (List ℕ)) (verb : Verb) → IsKept rows p path verb → refusal_at rows p path verb ≡ Some N.Mismatch
-  kept_at path V.Read is = absurd is
   kept_at path V.Set is = absurd is
   kept_at path V.Ins is = absurd is
   kept_at [] V.Del is = refl

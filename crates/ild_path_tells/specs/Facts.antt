@@ -9,7 +9,7 @@ use Rattle.ild_path_room.specs.Room.{Coming, by_set, by_insert}
 use Rattle.ild_schema.specs.declared.row.Row.{Row}
 use Rattle.ild_script.specs.declared.reply.No.{No}
 use Rattle.ild_script.specs.declared.reply.No.TheVariants as N
-use Rattle.ild_typed.specs.At.{InSlot, at, last_holder}
+use Rattle.ild_typed.specs.At.{InSlot, last_holder}
 
 abbrev pub unless_some : {X : Type 0} → Option X → Option No
 unless_some None = Some N.Path
@@ -17,7 +17,6 @@ unless_some (Some x) = None
 
 -- why there is no place for a verb: path where the table of edits has none, and mismatch where what is there can't be deleted
 abbrev pub refusal_at : List Row → InSlot → List (List ℕ) → Verb → Option No
-refusal_at rows p path V.Read = unless_some (at rows p path)
 refusal_at rows p path V.Set = unless_some (new_slot rows p (set_at path (tt {0})))
 refusal_at rows p path V.Ins = unless_some (new_slot rows p (ins_at path (tt {0})))
 refusal_at rows p [] V.Del = Some N.Mismatch

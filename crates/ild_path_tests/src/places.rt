@@ -1,5 +1,5 @@
 //! What a place tells of an edit there: by hand, from the levels of the forms and the table of edits.
-use crate::told::{doc_of, place_verb};
+use crate::told::{doc_of, verb_of};
 use ild_compile::compile;
 use ild_data::PadKeys;
 use ild_edges::MemStore;
@@ -47,7 +47,7 @@ fn tells(place: &Place<'_>, want: &str) -> Option<bool> {
 /// Whether the place of a line tells this.
 fn is_told(alloc: Global, doc: &Doc<'_>, asked: &str, want: &str) -> Option<bool> {
     let line = line_of(alloc, asked.as_bytes()).ok()??;
-    let verb = place_verb(line.verb);
+    let verb = verb_of(line.verb)?;
     let mut store = MemStore::new(alloc, &[], &[]).ok()?;
     match locate(alloc, doc, &line.path, verb, &PadKeys, &mut store) {
         Ok(place) => tells(&place, want),

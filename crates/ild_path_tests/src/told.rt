@@ -4,7 +4,7 @@ use ild_data::{KeyHash, Octets, PadKeys};
 use ild_edges::Store;
 use ild_open::open_root;
 use ild_path::{PathFault, Verb, locate};
-use ild_run_edit::{EditVerb, edit};
+use ild_run_edit::edit;
 use ild_schema::Accepted;
 use ild_script::{Reply, Word, line_of, reply_text};
 use ild_view_doc::Doc;
@@ -25,21 +25,13 @@ pub(crate) fn doc_of<'s>(
     Doc::of(alloc, acc, ty, Octets::from_vec(bytes)).ok()
 }
 
-fn edit_verb(word: Word) -> Option<EditVerb> {
+/// What a line that edits does at its place.
+pub(crate) fn verb_of(word: Word) -> Option<Verb> {
     match word {
-        Word::Set => Some(EditVerb::Set),
-        Word::Ins => Some(EditVerb::Ins),
-        Word::Del => Some(EditVerb::Del),
+        Word::Set => Some(Verb::Set),
+        Word::Ins => Some(Verb::Ins),
+        Word::Del => Some(Verb::Del),
         _ => None,
-    }
-}
-
-/// What is to be done at the place of a line that edits.
-pub(crate) fn place_verb(word: Word) -> Verb {
-    match word {
-        Word::Set => Verb::Set,
-        Word::Ins => Verb::Ins,
-        _ => Verb::Del,
     }
 }
 
@@ -52,7 +44,7 @@ fn reply_of<K: Store, H: KeyHash>(
 ) -> Option<Reply> {
     let line = line_of(alloc, asked.as_bytes()).ok()??;
     let json = asked.as_bytes().get(line.json_at..)?;
-    let verb = edit_verb(line.verb)?;
+    let verb = verb_of(line.verb)?;
     match edit(alloc, doc, verb, &line.path, json, keys, store) {
         Ok(()) => Some(Reply::Root(doc.root())),
         Err(no) => Some(Reply::No(no)),
@@ -92,7 +84,7 @@ pub(crate) fn fault_of<K: Store>(
     store: &mut K,
 ) -> Option<PathFault> {
     let line = line_of(alloc, asked.as_bytes()).ok()??;
-    let verb = place_verb(line.verb);
+    let verb = verb_of(line.verb)?;
     match locate(alloc, doc, &line.path, verb, &PadKeys, store) {
         Ok(_) => None,
         Err(fault) => Some(fault),

@@ -4,7 +4,7 @@ ghost use Rattle.std.specs.Prelude.{◌≡◌, true};
 ghost use Rattle.ild_path_place.specs.Comes.{comes};
 ghost use Rattle.ild_path_place.specs.Parts.{verb_in};
 
-use crate::told::{doc_of, place_verb};
+use crate::told::{doc_of, verb_of};
 use hex::decode;
 use ild_cbor::check;
 use ild_compile::compile;
@@ -64,7 +64,6 @@ fn block_of(
         Verb::Set => put_in(alloc, place, item, store),
         Verb::Ins => put_in(alloc, place, item, store),
         Verb::Del => erase(alloc, place, &Sha256Keys, store).ok(),
-        Verb::Read => None,
     }
 }
 
@@ -77,7 +76,7 @@ fn placed(
 ) -> Option<Result<NamedBlock, No>> {
     let line = line_of(alloc, asked.as_bytes()).ok()??;
     let item = decode(alloc, asked.as_bytes().get(line.json_at..)?).ok()?;
-    let verb = place_verb(line.verb);
+    let verb = verb_of(line.verb)?;
     match locate(alloc, doc, &line.path, verb, &Sha256Keys, store) {
         Ok(place) => Some(Ok(block_of(alloc, place, &item, store)?)),
         Err(PathFault::Path { .. }) => Some(Err(No::Path)),

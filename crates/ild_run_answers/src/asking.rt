@@ -11,7 +11,7 @@ use ild_data::{Path, Sha256Keys};
 use ild_edges::Store;
 use ild_open::BlockAt;
 use ild_open_held::standing_are_held;
-use ild_run_edit::{EditVerb, edit};
+use ild_run_edit::{Verb, edit};
 use ild_run_follow::Tell;
 use ild_run_reads::{read, reads_are_replies};
 use ild_run_standing::held_are_standing;
@@ -38,7 +38,7 @@ fn tell<K: Store>(alloc: Global, doc: &Doc<'_>, path: &Path, what: Tell, store: 
 fn change<K: Store>(
     alloc: Global,
     doc: &mut Doc<'_>,
-    verb: EditVerb,
+    verb: Verb,
     path: &Path,
     json: &[u8],
     store: &mut K,
@@ -68,9 +68,9 @@ pub fn ask<K: Store>(
         Word::Has => Some(tell(alloc, doc, &line.path, Tell::Presence, store)),
         Word::Len => Some(tell(alloc, doc, &line.path, Tell::Count, store)),
         Word::Walk => Some(tell(alloc, doc, &line.path, Tell::Parts, store)),
-        Word::Set => Some(change(alloc, doc, EditVerb::Set, &line.path, json, store)),
-        Word::Ins => Some(change(alloc, doc, EditVerb::Ins, &line.path, json, store)),
-        Word::Del => Some(change(alloc, doc, EditVerb::Del, &line.path, json, store)),
+        Word::Set => Some(change(alloc, doc, Verb::Set, &line.path, json, store)),
+        Word::Ins => Some(change(alloc, doc, Verb::Ins, &line.path, json, store)),
+        Word::Del => Some(change(alloc, doc, Verb::Del, &line.path, json, store)),
         Word::Root | Word::Begin | Word::Commit | Word::Abort => None,
     }
 }

@@ -1,5 +1,5 @@
 -- The new root block of an edit: what its place leaves, and what comes to it or goes.
-use Rattle.std.proofs.Common.{◌≡◌, ◌≢◌, ◌⊎◌, inl, inr, ℕ, ◌+◌, ◌≤◌, List, [], ◌∷◌, Option, Some, None, refl, ap, sym, subst, ◌∙◌, arith}
+use Rattle.std.proofs.Common.{◌≡◌, ◌≢◌, ◌⊎◌, inl, inr, ℕ, ◌+◌, ◌≤◌, List, [], ◌∷◌, Option, Some, None, true, true≢false, refl, ap, sym, subst, ◌∙◌, arith}
 use Rattle.std.specs.Prelude.{Contains, IfOk, IsUtf8, Result, Ok, Err}
 use Rattle.std.specs.List.{AllByRecursion}
 use Rattle.std.specs.Option.{option_map_or}
@@ -30,16 +30,16 @@ use Rattle.ild_path_edits.specs.Judged.{Tests, AreTests, judged_result}
 use Rattle.ild_path_edits.specs.Table.{delete_part, refusal_to_delete}
 use Rattle.ild_path_around.specs.Telling.{refusal_at, unless_some}
 use Rattle.ild_path_around.specs.Telling.{IsPlaceIn}
+use Rattle.ild_path_place.specs.Comes.{comes}
 use Rattle.ild_path_place.specs.Tells.{IsPlaceOf, table_at, type_at}
 use Rattle.ild_path_place.specs.declared.place.Place.{Place}
+use Rattle.ild_path_place.specs.declared.verb.Verb.{Verb}
 use Rattle.ild_path_place.specs.declared.verb.Verb.TheVariants as V
 use Rattle.ild_path_room.specs.Room.{by_set, by_insert}
 use Rattle.ild_run_edit.specs.Edits.{edit_of}
 use Rattle.ild_run_edit.specs.inside.Moves.{due_of, edited_by, Moves, MoveAnswer, IsIn, Fails, ComesTo, GoesFrom}
 use Rattle.ild_run_edit.specs.inside.Swaps.{SwapsTo}
-use Rattle.ild_run_edit.specs.inside.Roots.{verb_as, FindAnswer, PlaceIsFound, FindFails, RootIsMade, MakesRoot}
-use Rattle.ild_run_edit.specs.declared.verb.EditVerb.{EditVerb}
-use Rattle.ild_run_edit.specs.declared.verb.EditVerb.TheVariants as E
+use Rattle.ild_run_edit.specs.inside.Roots.{FindAnswer, PlaceIsFound, FindFails, RootIsMade, MakesRoot}
 use Rattle.ild_run_standing.specs.Laws.{HeldAreStanding}
 use Rattle.ild_run_standing.specs.Standing.{IsHeldAt, setting_of}
 use Rattle.ild_view_doc.specs.Block.{HasRoot}
@@ -164,12 +164,12 @@ module _ (h : List ℕ → List ℕ) (rows : List Row) (t : Tests) (n : TypeNo) 
     by_last None g = ap Err (same_Some N.Path r g)
     by_last (Some l) g = ap (unless_kept (changed_in rows delete_part p s ss)) g
 
-  no_place_is : (verb : EditVerb) (path : List (List ℕ)) (r : No) → refusal_at rows p path (verb_as verb) ≡ Some r → edited_by h rows t n v (edit_of verb path json) ≡ Err r
-  no_place_is E.Set path r e = none_set path r (none_of h rows t n v (set_at path json) (new_slot rows p (set_at path (tt {0}))) r e)
-  no_place_is E.Ins path r e = none_ins path r (none_of h rows t n v (set_at path json) (new_slot rows p (ins_at path (tt {0}))) r e)
-  no_place_is E.Del path r e = none_del path r e
+  no_place_is : (verb : Verb) (path : List (List ℕ)) (r : No) → refusal_at rows p path verb ≡ Some r → edited_by h rows t n v (edit_of verb path json) ≡ Err r
+  no_place_is V.Set path r e = none_set path r (none_of h rows t n v (set_at path json) (new_slot rows p (set_at path (tt {0}))) r e)
+  no_place_is V.Ins path r e = none_ins path r (none_of h rows t n v (set_at path json) (new_slot rows p (ins_at path (tt {0}))) r e)
+  no_place_is V.Del path r e = none_del path r e
 
-  refused_answer : (was : List (List ℕ)) (verb : EditVerb) (path : List (List ℕ)) (m k : Moment) (r : No) → FindAnswer h rows was p path (verb_as verb) m (Err r) k → MoveAnswer h rows t n v (edit_of verb path json) m (Err r) k
+  refused_answer : (was : List (List ℕ)) (verb : Verb) (path : List (List ℕ)) (m k : Moment) (r : No) → FindAnswer h rows was p path verb m (Err r) k → MoveAnswer h rows t n v (edit_of verb path json) m (Err r) k
   refused_answer was verb path m k N.Path a = inl (no_place_is verb path N.Path a)
   refused_answer was verb path m k N.Mismatch a = inl (no_place_is verb path N.Mismatch a)
   refused_answer was verb path m k N.Store a = inr a
@@ -186,10 +186,10 @@ module _ (h : List ℕ → List ℕ) (rows : List Row) (t : Tests) (n : TypeNo) 
   refused_answer was verb path m k N.Clash a = absurd a
   refused_answer was verb path m k N.Batch a = absurd a
 
-  path_is : (verb : EditVerb) (path : List (List ℕ)) → path_of (edit_of verb path json) ≡ path
-  path_is E.Set path = refl
-  path_is E.Ins path = refl
-  path_is E.Del path = refl
+  path_is : (verb : Verb) (path : List (List ℕ)) → path_of (edit_of verb path json) ≡ path
+  path_is V.Set path = refl
+  path_is V.Ins path = refl
+  path_is V.Del path = refl
 
 -- ---- in a document
 
@@ -228,8 +228,8 @@ own_block h d t m held v told x =
 of_type_is : {rows : List Row} {n : TypeNo} {place : Place} → IsPlaceOf rows n place → type_at place ≡ n
 of_type_is x = ap (λ (s : Slot). s.ty) x.slot
 
-module _ (standing : HeldAreStanding) (h : List ℕ → List ℕ) (d : Doc) (verb : EditVerb) (path : List (List ℕ)) (json : List ℕ) (texts : AllByRecursion IsUtf8 path) where
-  pub refused_root : (m k : Moment) (r : No) → PlaceIsFound h d (verb_as verb) path m (Err r) k → MakesRoot h d (edit_of verb path json) m (Err r) k
+module _ (standing : HeldAreStanding) (h : List ℕ → List ℕ) (d : Doc) (verb : Verb) (path : List (List ℕ)) (json : List ℕ) (texts : AllByRecursion IsUtf8 path) where
+  pub refused_root : (m k : Moment) (r : No) → PlaceIsFound h d verb path m (Err r) k → MakesRoot h d (edit_of verb path json) m (Err r) k
   refused_root m k r x = record {
     later = x.only.later;
     fails = find_no m k r x.fails;
@@ -244,10 +244,10 @@ module _ (standing : HeldAreStanding) (h : List ℕ → List ℕ) (d : Doc) (ver
   -- what is due where a place stands in a value that can be held
   abbrev All : List Row → TypeNo → Place → Moment → Result (List ℕ) No → Moment → Type 0
   All rows n place k r j =
-      (t : Tests) (v : Value) (u : Data) (was : List (List ℕ)) → k.blocks ≡ Some was → AreTests rows t → Storable bare h rows n v u → IsPlaceIn h rows was (plainly n, v) path (verb_as verb) place
+      (t : Tests) (v : Value) (u : Data) (was : List (List ℕ)) → k.blocks ≡ Some was → AreTests rows t → Storable bare h rows n v u → IsPlaceIn h rows was (plainly n, v) path verb place
       → Moves h rows t n v (edit_of verb path json) k r j
 
-  made_root : (m k j : Moment) (place : Place) (r : Result (List ℕ) No) → PlaceIsFound h d (verb_as verb) path m (Ok place) k → Later k j → Fails k r j → All (table_at place) (type_at place) place k r j
+  made_root : (m k j : Moment) (place : Place) (r : Result (List ℕ) No) → PlaceIsFound h d verb path m (Ok place) k → Later k j → Fails k r j → All (table_at place) (type_at place) place k r j
       → MakesRoot h d (edit_of verb path json) m r j
   made_root m k j place r x later fails moves =
       let in_doc : All (table_in d) (type_in d) place k r j = subst (λ n. All (table_in d) n place k r j) (of_type_is x.of) (subst (λ rows. All rows (type_at place) place k r j) x.of.table moves) in
@@ -266,25 +266,20 @@ abbrev is_in : (h : List ℕ → List ℕ) (place : Place) (t : Tests) (v : Valu
     → Storable bare h (table_at place) (type_at place) v u → IsIn h place t v path k
 is_in h place t v path k u was texts told tests s = record { was = was; told = told; tests = tests; tree = u; storable = s; texts = texts }
 
-abbrev pub IsBringing : EditVerb → Type 0
-IsBringing E.Set = Unit {0}
-IsBringing E.Ins = Unit {0}
-IsBringing E.Del = ⊥
-
 module _ (standing : HeldAreStanding) (h : List ℕ → List ℕ) (d : Doc) (path : List (List ℕ)) (json : List ℕ) (texts : AllByRecursion IsUtf8 path) where
-  pub come_root : (verb : EditVerb) → IsBringing verb → (m k j : Moment) (place : Place) (r : Result (List ℕ) No) → PlaceIsFound h d (verb_as verb) path m (Ok place) k → ComesTo h place json k r j → MakesRoot h d (edit_of verb path json) m r j
-  come_root E.Set b m k j place r x c =
-      made_root standing h d E.Set path json texts m k j place r x c.later c.fails
+  pub come_root : (verb : Verb) → comes verb ≡ true → (m k j : Moment) (place : Place) (r : Result (List ℕ) No) → PlaceIsFound h d verb path m (Ok place) k → ComesTo h place json k r j → MakesRoot h d (edit_of verb path json) m r j
+  come_root V.Set b m k j place r x c =
+      made_root standing h d V.Set path json texts m k j place r x c.later c.fails
       (λ t v u was told tests s is. c.moves t v by_set path (record { at = is_in h place t v path k u was texts told tests s; is = is }))
-  come_root E.Ins b m k j place r x c =
-      made_root standing h d E.Ins path json texts m k j place r x c.later c.fails
+  come_root V.Ins b m k j place r x c =
+      made_root standing h d V.Ins path json texts m k j place r x c.later c.fails
       (λ t v u was told tests s is. c.moves t v by_insert path (record { at = is_in h place t v path k u was texts told tests s; is = is }))
-  come_root E.Del b m k j place r x c = absurd b
+  come_root V.Del b m k j place r x c = absurd (true≢false (sym b))
 
-  pub go_root : (verb : EditVerb) → verb ≡ E.Del → (m k j : Moment) (place : Place) (r : Result (List ℕ) No) → PlaceIsFound h d (verb_as verb) path m (Ok place) k → GoesFrom h place k r j → MakesRoot h d (edit_of verb path json) m r j
+  pub go_root : (verb : Verb) → verb ≡ V.Del → (m k j : Moment) (place : Place) (r : Result (List ℕ) No) → PlaceIsFound h d verb path m (Ok place) k → GoesFrom h place k r j → MakesRoot h d (edit_of verb path json) m r j
   go_root verb is m k j place r x c =
       subst (λ verb. MakesRoot h d (edit_of verb path json) m r j) (sym is)
-      (made_root standing h d E.Del path json texts m k j place r (subst (λ verb. PlaceIsFound h d (verb_as verb) path m (Ok place) k) is x) c.later c.fails
+      (made_root standing h d V.Del path json texts m k j place r (subst (λ verb. PlaceIsFound h d verb path m (Ok place) k) is x) c.later c.fails
       (λ t v u was told tests s is. c.moves t v path (record { at = is_in h place t v path k u was texts told tests s; is = is })))
 
 -- the block is one of the document's type

@@ -1,19 +1,17 @@
 -- The place of an edit, or why there is none.
-use Rattle.std.proofs.Common.{◌≡◌, ℕ, ◌+◌, ◌≤◌, List, Some, true, ap, ◌∙◌, arith}
+use Rattle.std.proofs.Common.{◌≡◌, ℕ, ◌+◌, ◌≤◌, List, Some, arith}
 use Rattle.std.specs.Prelude.{IfOk, Result, Ok, Err}
 use Rattle.ild_data.specs.Spell.{id_of}
 use Rattle.ild_edges.specs.Store.{Moment, block_at}
 use Rattle.ild_open_parts.specs.Reads.{OnlyReads}
 use Rattle.ild_path_place.specs.Places.{LocateAnswer, Locates}
 use Rattle.ild_path_place.specs.Rooted.{FailsOnly, IsRootedAt}
-use Rattle.ild_path_place.specs.Comes.{comes}
 use Rattle.ild_path_place.specs.Parts.{verb_in}
 use Rattle.ild_path_place.specs.Tells.{IsPlaceOf}
 use Rattle.ild_path_place.specs.declared.fault.PathFault.{PathFault}
 use Rattle.ild_path_place.specs.declared.fault.PathFault.TheVariants as F
 use Rattle.ild_path_place.specs.declared.place.Place.{Place}
 use Rattle.ild_path_place.specs.declared.verb.Verb.{Verb}
-use Rattle.ild_path_place.specs.declared.verb.Verb.TheVariants as V
 use Rattle.ild_path_around.specs.Telling.{FaultsAreRefusals, FaultsRefuse, PlacesTell}
 use Rattle.ild_schema.specs.declared.row.Row.{Row}
 use Rattle.ild_schema.specs.Slots.{plainly}
@@ -22,9 +20,7 @@ use Rattle.ild_typed.specs.At.{InSlot}
 use Rattle.ild_typed.specs.Stands.{Stands, bare}
 use Rattle.ild_view_doc.specs.Docs.{block_in, table_in, type_in}
 use Rattle.ild_view_doc.specs.declared.doc.Doc.{Doc}
-use Rattle.ild_run_edit.specs.inside.Roots.{FindAnswer, FindFails, PlaceIsFound, no_place, verb_as}
-use Rattle.ild_run_edit.specs.declared.verb.EditVerb.{EditVerb}
-use Rattle.ild_run_edit.specs.declared.verb.EditVerb.TheVariants as E
+use Rattle.ild_run_edit.specs.inside.Roots.{FindAnswer, FindFails, PlaceIsFound, no_place}
 
 -- what is said of the place over a store that tells its blocks
 abbrev pub Located : (List ℕ → List ℕ) → Doc → Verb → List (List ℕ) → Moment → Result Place PathFault → Moment → Type 0
@@ -76,15 +72,3 @@ module _ (h : List ℕ → List ℕ) (d : Doc) (verb : Verb) (path : List (List 
         let y = x held v told own s in
         record { answer = answer_so (table_in d) held (plainly (type_in d), v) (laws (table_in d) (plainly (type_in d), v) path verb) f y.answer; gets = one_more _ _ _ y.gets };
   }
-
--- ---- what may be done at it
-
-module _ (place : Place) (asked : EditVerb) (verb : Verb) (done : verb_in place ≡ verb) (same : verb ≡ verb_as asked) where
-  pub set_comes : asked ≡ E.Set → comes (verb_in place) ≡ true
-  set_comes is = ap comes (done ∙ same ∙ ap verb_as is)
-
-  pub ins_comes : asked ≡ E.Ins → comes (verb_in place) ≡ true
-  ins_comes is = ap comes (done ∙ same ∙ ap verb_as is)
-
-  pub del_goes : asked ≡ E.Del → verb_in place ≡ V.Del
-  del_goes is = done ∙ same ∙ ap verb_as is

@@ -25,7 +25,7 @@ use Rattle.ild_path_edits.specs.Judged.{Tests}
 use Rattle.ild_run_edit.specs.Edits.{Edits, IsOfEdit, edit_of}
 use Rattle.ild_run_edit.specs.inside.Moves.{Fails, IsNewRoot, due_of, edited_by}
 use Rattle.ild_run_edit.specs.inside.Roots.{RootIsMade, MakesRoot}
-use Rattle.ild_run_edit.specs.declared.verb.EditVerb.{EditVerb}
+use Rattle.ild_path_place.specs.declared.verb.Verb.{Verb}
 use Rattle.ild_run_edit.proofs.Passing.{itself_passes, told_any, told_both}
 use Rattle.ild_run_standing.specs.Answers.{PassesOn}
 use Rattle.ild_run_standing.specs.Laws.{StandingAreAt}
@@ -118,7 +118,7 @@ module _ (h : List ℕ → List ℕ) (old : Doc) (e : Edit (List ℕ)) (m n : Mo
       by (inl same) = inl (ap (λ x. Some (edit_reply w x None)) (sym same), ap (λ x. edit_next (idle v) x) (sym same))
       by (inr cause) = inr (inl cause, refl)
 
-pub refused_edits : (h : List ℕ → List ℕ) (d : Doc) (verb : EditVerb) (path : List (List ℕ)) (json : List ℕ) (m n : Moment) (r : No) → MakesRoot h d (edit_of verb path json) m (Err r) n → Edits h d d verb path json m (Err r) n
+pub refused_edits : (h : List ℕ → List ℕ) (d : Doc) (verb : Verb) (path : List (List ℕ)) (json : List ℕ) (m n : Moment) (r : No) → MakesRoot h d (edit_of verb path json) m (Err r) n → Edits h d d verb path json m (Err r) n
 refused_edits h d verb path json m n r x = record {
   answers = record {
     later = x.later;
@@ -184,7 +184,7 @@ module _ (at_standing : StandingAreAt) (h : List ℕ → List ℕ) (old new : Do
     owed = omega arith;
   }
 
-pub done_edits : (at_standing : StandingAreAt) (h : List ℕ → List ℕ) (old new : Doc) (verb : EditVerb) (path : List (List ℕ)) (json : List ℕ) (m n : Moment) (b : List ℕ) → table_in new ≡ table_in old → type_in new ≡ type_in old → block_in new ≡ b
+pub done_edits : (at_standing : StandingAreAt) (h : List ℕ → List ℕ) (old new : Doc) (verb : Verb) (path : List (List ℕ)) (json : List ℕ) (m n : Moment) (b : List ℕ) → table_in new ≡ table_in old → type_in new ≡ type_in old → block_in new ≡ b
     → MakesRoot h old (edit_of verb path json) m (Ok b) n → Edits h old new verb path json m (Ok (tt {0})) n
 done_edits at_standing h old new verb path json m n b table type block x = record {
   answers = record {

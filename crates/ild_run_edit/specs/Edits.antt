@@ -11,11 +11,11 @@ use Rattle.ild_script_meaning.specs.Ask.{to_edit}
 use Rattle.ild_view_doc.specs.Docs.{block_in}
 use Rattle.ild_view_doc.specs.declared.doc.Doc.{Doc}
 use Rattle.ild_run_standing.specs.Answers.{AnswersAs}
-use Rattle.ild_run_edit.specs.declared.verb.EditVerb.{EditVerb}
-use Rattle.ild_run_edit.specs.declared.verb.EditVerb.TheVariants as V
+use Rattle.ild_path_place.specs.declared.verb.Verb.{Verb}
+use Rattle.ild_path_place.specs.declared.verb.Verb.TheVariants as V
 
 -- the edit of a line with this word, path and json
-abbrev pub edit_of : EditVerb → List (List ℕ) → List ℕ → Edit (List ℕ)
+abbrev pub edit_of : Verb → List (List ℕ) → List ℕ → Edit (List ℕ)
 edit_of V.Set path json = set_at path json
 edit_of V.Ins path json = ins_at path json
 edit_of V.Del path json = del_at path
@@ -33,6 +33,6 @@ IsOfEdit (Err N.Batch) = ⊥
 IsOfEdit result = Unit {0}
 
 -- The answer, as the reply to the line that asks for the edit.
-pub record Edits (h : List ℕ → List ℕ) (old new : Doc) (verb : EditVerb) (path : List (List ℕ)) (json : List ℕ) (m : Moment) (result : Result (Unit {0}) No) (n : Moment) : Type 0 where
+pub record Edits (h : List ℕ → List ℕ) (old new : Doc) (verb : Verb) (path : List (List ℕ)) (json : List ℕ) (m : Moment) (result : Result (Unit {0}) No) (n : Moment) : Type 0 where
   pub answers : AnswersAs h old new (to_edit (edit_of verb path json)) m (Some (reply_of result new)) n
   pub own : IsOfEdit result

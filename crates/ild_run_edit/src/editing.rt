@@ -5,9 +5,9 @@ ghost use Rattle.ild_run_edit.specs.Naming.{NamesClash};
 ghost use Rattle.ild_script.specs.declared.reply.No.TheVariants as refusal;
 
 use crate::rooting::new_root;
-use crate::verb::EditVerb;
 use ild_data::{BlockId, KeyHash, Path};
 use ild_edges::Store;
+use ild_path_place::Verb;
 use ild_run_standing::standing_are_at;
 use ild_script::No;
 use ild_view_doc::Doc;
@@ -18,7 +18,7 @@ use std::alloc::Global;
 pub fn edit_naming<K: Store, H: KeyHash>(
     alloc: Global,
     doc: &mut Doc<'_>,
-    verb: EditVerb,
+    verb: Verb,
     path: &Path,
     json: &[u8],
     keys: &H,
@@ -46,7 +46,7 @@ pub fn edit_naming<K: Store, H: KeyHash>(
 pub fn edit<K: Store, H: KeyHash>(
     alloc: Global,
     doc: &mut Doc<'_>,
-    verb: EditVerb,
+    verb: Verb,
     path: &Path,
     json: &[u8],
     keys: &H,

@@ -8,7 +8,6 @@ mod faults;
 mod part;
 mod putting;
 mod rooting;
-mod verb;
 
 pub use editing::{edit, edit_naming};
-pub use verb::EditVerb;
+pub use ild_path_place::Verb;

@@ -3,14 +3,13 @@ ghost use Rattle.std.specs.Prelude.{◌≡◌, Err, IfOk, IsUtf8};
 ghost use Rattle.std.specs.List.{AllByRecursion};
 ghost use Rattle.ild_run_edit.specs.Edits.{edit_of};
 ghost use Rattle.ild_run_edit.specs.Naming.{NamesClash};
-ghost use Rattle.ild_run_edit.specs.inside.Roots.{PlaceIsFound, MakesRoot, no_place, verb_as};
+ghost use Rattle.ild_run_edit.specs.inside.Roots.{PlaceIsFound, MakesRoot, no_place};
 ghost use Rattle.ild_script.specs.declared.reply.No.TheVariants as refusal;
 ghost use Rattle.ild_view_doc.specs.Block.{HasRoot};
 ghost use Rattle.ild_view_doc.specs.Docs.{table_in, type_in};
 
 use crate::bringing::bring;
 use crate::erasing::erase_part;
-use crate::verb::EditVerb;
 use ild_data::{BlockId, KeyHash, NamedBlock, Path};
 use ild_edges::Store;
 use ild_path_around::{faults_are_refusals, places_tell};
@@ -29,16 +28,6 @@ fn are_texts(path: &Path)
     while k < segments.len() {
         let _text = segments[k].as_str();
         k += 1;
-    }
-}
-
-fn verb_as(verb: EditVerb) -> Verb
-    ensures { result ≡ verb_as verb }
-{
-    match verb {
-        EditVerb::Set => Verb::Set,
-        EditVerb::Ins => Verb::Ins,
-        EditVerb::Del => Verb::Del,
     }
 }
 
@@ -78,7 +67,7 @@ fn located<'b, K: Store, H: KeyHash>(
 pub(crate) fn new_root<K: Store, H: KeyHash>(
     alloc: Global,
     doc: &Doc<'_>,
-    verb: EditVerb,
+    verb: Verb,
     path: &Path,
     json: &[u8],
     keys: &H,
@@ -92,13 +81,13 @@ pub(crate) fn new_root<K: Store, H: KeyHash>(
     // These two do no work: their clauses say where the document stands, and that segments are texts.
     held_are_standing();
     are_texts(path);
-    let place = match located(alloc, doc, path, verb_as(verb), keys, store) {
+    let place = match located(alloc, doc, path, verb, keys, store) {
         Ok(place) => place,
         Err(refusal) => return Err(refusal),
     };
     match verb {
-        EditVerb::Set => bring(alloc, place, doc.schema(), json, keys, store, clash),
-        EditVerb::Ins => bring(alloc, place, doc.schema(), json, keys, store, clash),
-        EditVerb::Del => erase_part(alloc, place, doc.schema(), keys, store, clash),
+        Verb::Set => bring(alloc, place, doc.schema(), json, keys, store, clash),
+        Verb::Ins => bring(alloc, place, doc.schema(), json, keys, store, clash),
+        Verb::Del => erase_part(alloc, place, doc.schema(), keys, store, clash),
     }
 }

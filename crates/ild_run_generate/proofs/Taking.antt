@@ -11,8 +11,8 @@ use Rattle.ild_generator.specs.Schema.{generator_rows, generator_type}
 use Rattle.ild_path_edits.specs.Edit.{set_at, del_at}
 use Rattle.ild_path_edits.specs.Judged.{Tests, are_sized, unless_judged}
 use Rattle.ild_run_edit.specs.Edits.{edit_of}
-use Rattle.ild_run_edit.specs.declared.verb.EditVerb.{EditVerb}
-use Rattle.ild_run_edit.specs.declared.verb.EditVerb.TheVariants as V
+use Rattle.ild_path_place.specs.declared.verb.Verb.{Verb}
+use Rattle.ild_path_place.specs.declared.verb.Verb.TheVariants as V
 use Rattle.ild_run_generate.specs.Steps.{IsAsked, counts_of, one_more, one_absent}
 use Rattle.ild_run_generate.specs.declared.asking.Asked.{Asked}
 use Rattle.ild_run_generate.specs.declared.summary.Counts.{Counts}
@@ -29,7 +29,7 @@ use Rattle.ild_view_doc.specs.declared.doc.Doc.{Doc}
 
 -- ---- the edit that was asked
 
-edit_same : (b : Bool) (verb : EditVerb) (path : List (List ℕ)) (json : List ℕ) (k : List (List ℕ)) → verb ≡ (if b then V.Del else V.Set) → path ≡ k → edit_of verb path json ≡ (if b then del_at k else set_at k json)
+edit_same : (b : Bool) (verb : Verb) (path : List (List ℕ)) (json : List ℕ) (k : List (List ℕ)) → verb ≡ (if b then V.Del else V.Set) → path ≡ k → edit_of verb path json ≡ (if b then del_at k else set_at k json)
 edit_same true verb path json k is to = ap (λ x. edit_of x path json) is ∙ ap (λ p. del_at p) to
 edit_same false verb path json k is to = ap (λ x. edit_of x path json) is ∙ ap (λ p. set_at p json) to
 

@@ -9,7 +9,7 @@ use Rattle.ild_generator.specs.Numbers.{is_deletion, key_of}
 use Rattle.ild_generator.specs.Schema.{generator_rows, generator_type}
 use Rattle.ild_path_edits.specs.Judged.{Tests, AreTests}
 use Rattle.ild_run_edit.specs.Naming.{NamesClash}
-use Rattle.ild_run_edit.specs.declared.verb.EditVerb.TheVariants as V
+use Rattle.ild_path_place.specs.declared.verb.Verb.TheVariants as V
 use Rattle.ild_run_generate.specs.declared.asking.Asked.{Asked}
 use Rattle.ild_run_generate.specs.declared.fault.GenerateFault.{GenerateFault}
 use Rattle.ild_run_generate.specs.declared.fault.GenerateFault.TheVariants as F

@@ -8,13 +8,13 @@ ghost use Rattle.ild_run_generate.specs.Steps.{IsAsked};
 use ild_data::{Int, Path, Tree, Txt};
 use ild_generator::{is_deletion, key_of};
 use ild_json::print;
-use ild_run_edit::EditVerb;
+use ild_run_edit::Verb;
 use std::alloc::Global;
 
 /// An edit: what it does, at which path, and with which json text.
 #[derive(Drop)]
 pub(crate) struct Asked {
-    pub(crate) verb: EditVerb,
+    pub(crate) verb: Verb,
     pub(crate) path: Path,
     pub(crate) json: Txt,
 }
@@ -60,14 +60,14 @@ pub(crate) fn edit_for(alloc: Global, x: u64, i: u64) -> Option<Asked>
     let path = path_to(alloc, x)?;
     if is_deletion(x) {
         return Some(Asked {
-            verb: EditVerb::Del,
+            verb: Verb::Del,
             path,
             json: Txt::from_string(String::new(alloc)),
         });
     }
     let json = json_of(alloc, i)?;
     Some(Asked {
-        verb: EditVerb::Set,
+        verb: Verb::Set,
         path,
         json,
     })

@@ -10,7 +10,7 @@ use Rattle.ild_path_place.specs.inside.Slots.{FitsKey, SlotAnswer}
 use Rattle.ild_path_place.specs.declared.ending.Found.{Found}
 use Rattle.ild_path_place.specs.declared.fault.PathFault.{PathFault}
 use Rattle.ild_path_place.specs.declared.fault.PathFault.TheVariants as F
-use Rattle.ild_path_place.specs.declared.refusal.Refusal.TheVariants as R
+use Rattle.ild_path_rules.specs.declared.delete.Refusal.TheVariants as R
 use Rattle.ild_path_place.specs.declared.verb.Verb.{Verb}
 use Rattle.ild_schema.specs.declared.row.Row.{Row}
 use Rattle.ild_typed.specs.At.{InSlot, at}

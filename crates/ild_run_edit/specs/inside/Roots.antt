@@ -24,18 +24,10 @@ use Rattle.ild_path_place.specs.declared.fault.PathFault.{PathFault}
 use Rattle.ild_path_place.specs.declared.fault.PathFault.TheVariants as F
 use Rattle.ild_path_place.specs.declared.place.Place.{Place}
 use Rattle.ild_path_place.specs.declared.verb.Verb.{Verb}
-use Rattle.ild_path_place.specs.declared.verb.Verb.TheVariants as V
 use Rattle.ild_run_edit.specs.inside.Moves.{Fails, MoveAnswer, due_of}
-use Rattle.ild_run_edit.specs.declared.verb.EditVerb.{EditVerb}
-use Rattle.ild_run_edit.specs.declared.verb.EditVerb.TheVariants as E
 use Rattle.ild_run_standing.specs.Standing.{IsHeldAt}
 use Rattle.ild_view_doc.specs.Docs.{table_in, type_in, block_in}
 use Rattle.ild_view_doc.specs.declared.doc.Doc.{Doc}
-
-abbrev pub verb_as : EditVerb → Verb
-verb_as E.Set = V.Set
-verb_as E.Ins = V.Ins
-verb_as E.Del = V.Del
 
 abbrev pub no_place : PathFault → No
 no_place (F.Path k) = N.Path

@@ -58,10 +58,4 @@ pub unreachable-requires : goal.unreachable-requires
 unreachable-requires g c =
     let at = c.into_parts-parts.ensures in
     let are : ArePartsOf c.args.place c.into_parts-parts.result = record { root = at.root; verb = at.verb; hops = at.hops; end = at.end } in
-    true≢false (sym (comes_by c.args.place c.into_parts-parts.result are V.Read c.in-Read.is c.requires))
-
-pub unreachable-requires-in-Del : goal.unreachable-requires-in-Del
-unreachable-requires-in-Del g c =
-    let at = c.into_parts-parts.ensures in
-    let are : ArePartsOf c.args.place c.into_parts-parts.result = record { root = at.root; verb = at.verb; hops = at.hops; end = at.end } in
     true≢false (sym (comes_by c.args.place c.into_parts-parts.result are V.Del c.in-Del.is c.requires))

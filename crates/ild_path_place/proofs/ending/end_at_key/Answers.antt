@@ -15,7 +15,7 @@ use Rattle.ild_path_place.specs.inside.Slots.{SlotAnswer}
 use Rattle.ild_path_place.specs.declared.ending.Found.{Found}
 use Rattle.ild_path_place.specs.declared.fault.PathFault.{PathFault}
 use Rattle.ild_path_place.specs.declared.place.End.TheVariants.{AtKey}
-use Rattle.ild_path_place.specs.declared.refusal.Refusal.{Refusal}
+use Rattle.ild_path_rules.specs.declared.delete.Refusal.{Refusal}
 use Rattle.std.specs.Prelude.{IfOk}
 use Rattle.ild_path_enter.specs.declared.lookup.Entered.{Entered}
 use Rattle.ild_path_place.specs.Rooted.{FailsOnly}
