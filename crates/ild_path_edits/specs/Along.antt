@@ -1,6 +1,7 @@
 -- Judging a changed value along the path of its change: the new part by itself, and each enclosing form by a test of its own layer.
 -- What else is in the value was judged before.
 use Rattle.std.specs.Prelude.{◌≡◌, ℕ, ◌-◌, ◌≤◌, List, [], ◌∷◌, Bool, false, Option, Some, None}
+use Rattle.std.specs.Option.{option_map_or}
 use Rattle.ild_data.specs.Data as D
 use Rattle.ild_data.specs.Data.{depth, items_of, members_of}
 use Rattle.ild_schema.specs.declared.def.TypeDef.{TypeDef}
@@ -58,6 +59,11 @@ taken (Some d) = levels_of d null
 
 abbrev pub room_below : List Row → ℕ → InSlot → List ℕ → ℕ
 room_below rows room p s = room - taken (form_of rows p.0)
+
+-- What a room leaves at the end of a path: each holder on it takes its levels, the one in which the last segment is sought too.
+abbrev pub room_at : List Row → ℕ → InSlot → List (List ℕ) → ℕ
+room_at rows room p [] = room
+room_at rows room p (s ∷ ss) = option_map_or (λ q. room_at rows (room_below rows room p s) q ss) (part (seen rows p) s) (room_below rows room p s)
 
 -- what is asked of an enclosing form: data inside an Any nest no deeper than the room
 abbrev pub IsInRoom : ℕ → Slot → Holder → Type 0

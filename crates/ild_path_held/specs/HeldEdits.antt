@@ -1,8 +1,7 @@
 -- The laws of what a store holds of parts, and of what edits make.
-use Rattle.std.specs.Prelude.{◌≡◌, ℕ, ◌+◌, ◌≤◌, Bool, true, IsUtf8, List, [], ◌∷◌, Option, Some, Ok}
+use Rattle.std.specs.Prelude.{◌≡◌, ℕ, ◌+◌, ◌≤◌, Bool, true, IsUtf8, List, Option, Some, Ok}
 use Rattle.std.specs.FinMap.{put as insert}
 use Rattle.std.specs.List.{AllByRecursion}
-use Rattle.std.specs.Option.{option_map_or}
 use Rattle.ild_data.specs.Among.{AreAmong}
 use Rattle.ild_data.specs.ByteOrder.{bytewise, without as remove}
 use Rattle.ild_data.specs.Data.{Data}
@@ -14,14 +13,13 @@ use Rattle.ild_edges.specs.Store.{Keeps, block_at}
 use Rattle.ild_schema.specs.declared.number.Slot.{Slot}
 use Rattle.ild_schema.specs.declared.row.Row.{Row}
 use Rattle.ild_schema.specs.Value.{Value, Pairs, map, pairs_of, pairs_list}
-use Rattle.ild_typed.specs.At.{InSlot, seen, at}
+use Rattle.ild_typed.specs.At.{InSlot, at}
 use Rattle.ild_typed.specs.Fits.{Fits}
 use Rattle.ild_typed.specs.Hamt.{root_map, whole}
 use Rattle.ild_typed.specs.OfType.{OfType, TestsKeys}
 use Rattle.ild_typed.specs.Represented.{represented}
 use Rattle.ild_typed.specs.Schema.{IsSchema}
-use Rattle.ild_typed.specs.Segment.{part}
-use Rattle.ild_path_edits.specs.Along.{room_below}
+pub use Rattle.ild_path_edits.specs.Along.{room_at}
 use Rattle.ild_path_edits.specs.Edit.{Edit, HasTextPath, path_of, change}
 use Rattle.ild_path_edits.specs.EditLaws.{Brings}
 use Rattle.ild_open_held.specs.Held.{IsHeld, IsHeldBlock}
@@ -33,11 +31,6 @@ use Rattle.ild_data.specs.declared.hamt_shape.HamtShape.{HamtShape}
 use Rattle.ild_path_nodes.specs.NodeLaws.{IsHamt}
 use Rattle.ild_typed.specs.Blocks.{nodes}
 use Rattle.ild_path_held.specs.Hamts.{IsTrieIn}
-
--- what a room leaves at the end of a path: each holder on it takes its levels
-abbrev pub room_at : List Row → ℕ → InSlot → List (List ℕ) → ℕ
-room_at rows room p [] = room
-room_at rows room p (s ∷ ss) = option_map_or (λ q. room_at rows (room_below rows room p s) q ss) (part (seen rows p) s) (room_below rows room p s)
 
 -- a store that holds a value holds its parts, through HAMTs too, in the room that is left there
 abbrev pub HeldParts : Type 0

@@ -1,7 +1,6 @@
 -- How many levels a part may nest at the end of a path, so that the whole value stays within its limit: what the limit leaves, and
 -- whether a key may stand there by itself.
-use Rattle.std.specs.Prelude.{◌≡◌, ◌↔◌, ℕ, List, [], ◌∷◌, Bool, Option, Some, None, ◌-◌, Result, IfOk}
-use Rattle.std.specs.Option.{option_map_or}
+use Rattle.std.specs.Prelude.{◌≡◌, ◌↔◌, ℕ, List, ◌∷◌, Bool, Option, Some, None, ◌-◌, Result, IfOk}
 use Rattle.ild_data.specs.Data as T
 use Rattle.ild_schema.specs.declared.def.TypeDef.{TypeDef}
 use Rattle.ild_schema.specs.declared.def.TypeDef.TheVariants as D
@@ -15,8 +14,9 @@ use Rattle.ild_typed.specs.Fits.{Fits}
 use Rattle.ild_typed.specs.Holder.{Holder, entries}
 use Rattle.ild_typed.specs.Layers.{RepresentsSome}
 use Rattle.ild_typed.specs.OfType.{OfType, TestsKeys}
-use Rattle.ild_typed.specs.Segment.{part, set_part}
-use Rattle.ild_path_edits.specs.Along.{room_below, taken}
+use Rattle.ild_typed.specs.Segment.{set_part}
+use Rattle.ild_path_edits.specs.Along.{taken}
+pub use Rattle.ild_path_edits.specs.Along.{room_at as room_left}
 use Rattle.ild_path_edits.specs.Table.{MayStand, slot_to_set, slot_to_insert, insert_part}
 use Rattle.std.specs.declared.alloc.AllocError.{AllocError}
 use Rattle.ild_view.specs.View.{IsView, slot_of, table_of}
@@ -34,11 +34,6 @@ slot_for by_insert h s = slot_to_insert h s
 abbrev pub brought : Coming → Value → Holder → List ℕ → Holder
 brought by_set w h s = set_part h s w
 brought by_insert w h s = insert_part h s w
-
--- What a room leaves at the end of a path: each holder on it takes its levels, the one in which the last segment is sought too.
-abbrev pub room_left : List Row → ℕ → InSlot → List (List ℕ) → ℕ
-room_left rows room p [] = room
-room_left rows room p (s ∷ ss) = option_map_or (λ q. room_left rows (room_below rows room p s) q ss) (part (seen rows p) s) (room_below rows room p s)
 
 -- a key nests no deeper than the room, as the text of a value of the key type
 abbrev pub KeyFits : List Row → ℕ → Holder → List ℕ → Type 0

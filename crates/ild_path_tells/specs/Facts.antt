@@ -1,8 +1,9 @@
 -- What is asked of a path for an edit: whether a place is there, and whether its last segment may be a key.
-use Rattle.std.specs.Prelude.{ℕ, List, [], ◌∷◌, Bool, true, Option, Some, None}
+use Rattle.std.specs.Prelude.{ℕ, List, [], ◌∷◌, Bool, true, Option, Some}
 use Rattle.std.specs.Option.{option_map_or}
 use Rattle.ild_path_edits.specs.Edit.{ins_at, new_slot, set_at}
 use Rattle.ild_path_edits.specs.Table.{key_fits, refusal_to_delete}
+pub use Rattle.ild_path_edits.specs.Table.{unless_there as unless_some}
 use Rattle.ild_path_place.specs.declared.verb.Verb.{Verb}
 use Rattle.ild_path_place.specs.declared.verb.Verb.TheVariants as V
 use Rattle.ild_path_room.specs.Room.{Coming, by_set, by_insert}
@@ -10,10 +11,6 @@ use Rattle.ild_schema.specs.declared.row.Row.{Row}
 use Rattle.ild_script.specs.declared.reply.No.{No}
 use Rattle.ild_script.specs.declared.reply.No.TheVariants as N
 use Rattle.ild_typed.specs.At.{InSlot, last_holder}
-
-abbrev pub unless_some : {X : Type 0} → Option X → Option No
-unless_some None = Some N.Path
-unless_some (Some x) = None
 
 -- why there is no place for a verb: path where the table of edits has none, and mismatch where what is there can't be deleted
 abbrev pub refusal_at : List Row → InSlot → List (List ℕ) → Verb → Option No

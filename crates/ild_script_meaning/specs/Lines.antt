@@ -30,6 +30,7 @@ use Rattle.ild_script_session.specs.Session.{State, idle, Due, Meaning}
 use Rattle.ild_script_meaning.specs.Ask.{Tell, shown_form, representation, presence, count, list_of_parts, Ask, nothing, to_tell, to_edit, to_tell_root, to_begin, to_commit, to_abort, unknown, asked}
 use Rattle.ild_script_meaning.specs.Costs.{blocks_met, nodes_in, brought, changed_met, judged_puts, different, tell_gets}
 use Rattle.ild_script_meaning.specs.Reads.{counted, walked}
+pub use Rattle.ild_script_meaning.specs.PlainLines.{printed_or}
 
 -- What lines are about: the frame of a root, the hash of keys, a table with its tests, and the type of the value.
 pub record Setting : Type 0 where
@@ -67,11 +68,6 @@ abbrev pub root_reply : Setting → Value → Reply
 root_reply w v = R.Root (record { 0 = option_map_or (root_id w.frame) (tree_in w (in_slot w v)) [] })
 
 -- ---- reads
-
--- a JSON text; there is none of what holds a map whose only key is `/`
-abbrev pub printed_or : Option (List ℕ) → Reply
-printed_or None = R.No N.Reserved
-printed_or (Some text) = R.Ok text
 
 abbrev pub printed : Data → Reply
 printed d = printed_or (json_text d)

@@ -35,15 +35,15 @@ asked blank = nothing
 asked (command c) = asked_by c.verb c.path c.json
 asked outside = unknown
 
--- the reply of a json text
-abbrev pub printed : Option (List ℕ) → Reply
-printed None = R.No N.Reserved
-printed (Some text) = R.Ok text
+-- the reply of a JSON text; there is none of what holds a map whose only key is `/`
+abbrev pub printed_or : Option (List ℕ) → Reply
+printed_or None = R.No N.Reserved
+printed_or (Some text) = R.Ok text
 
 -- the reply that shows an integer
 abbrev pub shown : Option ℤ → Reply
 shown None = R.No N.Path
-shown (Some n) = printed (json_text (integer n))
+shown (Some n) = printed_or (json_text (integer n))
 
 abbrev pub got_at : Option (List ℕ) → Value → Reply
 got_at None v = R.No N.Path
