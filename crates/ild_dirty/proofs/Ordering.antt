@@ -1,25 +1,33 @@
 -- An order of blocks in which children stand first.
-use Rattle.std.proofs.Common.{◌≡◌, ◌⊎◌, ⊎_elim, ℕ, zero, suc, ◌+◌, ◌-◌, ◌≤◌, ◌<◌, List, [], ◌∷◌, ◌++◌, length, take, drop, get_or, Bool, true, false, cond, ◌&&◌, ◌||◌, nat_eq, refl, sym, ap, subst, ◌∙◌, arith}
-use Rattle.std.proofs.lemmas.List.{get_or-set_same, get_or-set_other, length-append, length-set, append-nil, append_assoc, length-replicate}
+use Rattle.std.proofs.Common.{◌≡◌, ◌⊎◌, ⊎_elim, ℕ, zero, suc, ◌+◌, ◌-◌, ◌≤◌, ◌<◌, List, [], ◌∷◌, ◌++◌, length, take, drop, get_or, Bool, true, false, cond, ◌&&◌, ◌||◌, nat_eq, Option, Some, None, refl, sym, ap, subst, ◌∙◌, arith}
+use Rattle.std.proofs.lemmas.List.{get_or-map, get_or-set_same, get_or-set_other, length-append, length-set, append-nil, append_assoc, length-replicate}
 use Rattle.std.proofs.lemmas.Bool.{eq-eqb, eqb-true}
 use Rattle.std.proofs.Math.ListN.{set}
 use Rattle.std.specs.Prelude.{replicate}
+use Rattle.std.specs.List.{cons_option}
+use Rattle.std.specs.Option.{option_map_or}
 use Rattle.ild_edges.specs.Among.{IsIn}
 use Rattle.ild_edges.proofs.Among.{IsIn-at}
-use Rattle.ild_dirty.specs.inside.Walk.{AreInside, is_in, is_done, are_done, is_ready, HasReady, Follows, AreStuck, unmarked, AreMarks, IsSoFar, PassesSpots}
+use Rattle.ild_dirty.specs.Own.{index_at}
+use Rattle.ild_dirty.specs.inside.Walk.{AreBelow, AreInside, own_block, own_numbers, numbers_of, is_in, are_done, are_marked, is_ready, HasReady, Follows, AreStuck, unmarked, AreMarks, IsSoFar, PassesSpots}
 
 -- ---- children that are done
 
-and_assoc : (a b c : Bool) → (a && b && c) ≡ (a && (b && c))
-and_assoc true b c = refl
-and_assoc false b c = refl
+done_more : (marks : List Bool) (order ns : List ℕ) (o : Option ℕ) (done : Bool) → ((j : ℕ) → get_or marks j false ≡ is_in j order) → are_marked marks ns ≡ done → are_marked marks (cons_option o ns) ≡ (option_map_or (λ j. is_in j order) o true && done)
+done_more marks order ns None done are rest = rest
+done_more marks order ns (Some j) done are rest = ap (λ b. b && are_marked marks ns) (are j) ∙ ap (λ b. is_in j order && b) rest
 
-pub are_done-more : (own : List (List ℕ)) (order : List ℕ) (cs : List (List ℕ × ℕ)) (c : List ℕ × ℕ) → are_done own order (cs ++ c ∷ []) ≡ (are_done own order cs && is_done own order c)
-are_done-more own order [] c = right (is_done own order c) where
-  right : (b : Bool) → (b && true) ≡ b
-  right true = refl
-  right false = refl
-are_done-more own order (d ∷ cs) c = ap (λ b. is_done own order d && b) (are_done-more own order cs c) ∙ sym (and_assoc (is_done own order d) (are_done own order cs) (is_done own order c))
+-- children are done where the numbers of those that are the batch's own are marked
+done_marked : (own : List (List ℕ)) (order : List ℕ) (marks : List Bool) (cs : List (List ℕ × ℕ)) → ((j : ℕ) → get_or marks j false ≡ is_in j order) → are_marked marks (own_numbers own cs) ≡ are_done own order cs
+done_marked own order marks [] are = refl
+done_marked own order marks (c ∷ cs) are = done_more marks order (own_numbers own cs) (index_at own c.0) (are_done own order cs) are (done_marked own order marks cs are)
+
+-- a place is ready where the numbers that are noted of it are marked
+pub ready_marked : (own : List (List ℕ)) (children : ℕ → List ℕ → List (List ℕ × ℕ)) (spots : List (ℕ × ℕ)) (below : List (List ℕ)) (order : List ℕ) (marks : List Bool) (left : ℕ) (s d : ℕ × ℕ) → AreBelow own children spots below → left < length spots → s ≡ get_or spots left d → AreMarks own order marks
+    → is_ready own children order s ≡ are_marked marks (get_or below left [])
+ready_marked own children spots below order marks left s d noted lt at marked =
+    sym (done_marked own order marks (children s.1 (own_block own s.0)) marked.are)
+    ∙ ap (are_marked marks) (ap (numbers_of own children) at ∙ sym (get_or-map (numbers_of own children) spots left d [] lt) ∙ ap (λ bs. get_or bs left []) (sym noted))
 
 -- ---- marks
 

@@ -1,11 +1,11 @@
 -- How far a walk has come.
-use Rattle.std.proofs.Common.{◌≡◌, ⊎_elim, ℕ, ◌+◌, ◌≤◌, ◌<◌, List, [], ◌∷◌, ◌++◌, length, take, get_or, Some, sym, ap, subst, ◌∙◌, arith}
-use Rattle.std.proofs.lemmas.List.{take_more, take_all, take-append-le}
+use Rattle.std.proofs.Common.{◌≡◌, ⊎_elim, ℕ, ◌+◌, ◌≤◌, ◌<◌, List, [], ◌∷◌, ◌++◌, length, map, take, get_or, Some, sym, ap, subst, ◌∙◌, arith}
+use Rattle.std.proofs.lemmas.List.{map-append, take_more, take_all, take-append-le}
 use Rattle.ild_edges.specs.Among.{IsIn}
 use Rattle.ild_edges.proofs.Among.{IsIn-left, IsIn-append, IsIn-one, IsIn-at}
 use Rattle.ild_dirty.specs.Own.{index_at}
 use Rattle.ild_dirty.specs.Beneath.{Place, HasPlace, IsTreeAt, AgreesWith, blocks_in, block_of, place_kind}
-use Rattle.ild_dirty.specs.inside.Walk.{own_block, IsOneOf, Leads, Grows, LeadOn, ArePlaces, AreInside, AreReached}
+use Rattle.ild_dirty.specs.inside.Walk.{own_block, IsOneOf, Leads, Grows, LeadOn, ArePlaces, AreInside, AreBelow, AreReached, numbers_of}
 use Rattle.ild_dirty.proofs.Walking.{index_found, own_found, child_place, top_is, has_top}
 
 -- the children of so many places lead on
@@ -33,12 +33,22 @@ walked_none own children id kind spots grows = record {
   sound = λ t tree agrees s is. same_tree_place children own id kind t tree agrees s (grows.only s (subst (λ (xs : List (ℕ × ℕ)). IsIn s xs) grows.is is));
 }
 
+-- the places that were passed, and one more
+passed_more : (passed : ℕ) (old new more : List (ℕ × ℕ)) (s : ℕ × ℕ) → passed < length old → s ≡ get_or old passed s → new ≡ old ++ more → take (passed + 1) new ≡ take passed old ++ s ∷ []
+passed_more passed old new more s lt at is = ap (take (passed + 1)) is ∙ take-append-le (passed + 1) old more (omega (arith, lt)) ∙ take_more old passed s lt ∙ ap (λ x. take passed old ++ x ∷ []) (sym at)
+
+-- the numbers that are noted of one place more
+pub below_more : (own : List (List ℕ)) (children : ℕ → List ℕ → List (List ℕ × ℕ)) (passed : ℕ) (old new : List (ℕ × ℕ)) (s : ℕ × ℕ) (was now : List (List ℕ)) (ns : List ℕ) → passed < length old → s ≡ get_or old passed s → Grows own (children s.1 (own_block own s.0)) old new
+    → AreBelow own children (take passed old) was → ns ≡ numbers_of own children s → now ≡ was ++ ns ∷ [] → AreBelow own children (take (passed + 1) new) now
+below_more own children passed old new s was now ns lt at grows before is pushed =
+    pushed ∙ ap (λ xs. was ++ xs ∷ []) is ∙ ap (λ xs. xs ++ numbers_of own children s ∷ []) before ∙ sym (map-append (numbers_of own children) (take passed old) (s ∷ []))
+    ∙ ap (map (numbers_of own children)) (sym (passed_more passed old new grows.more s lt at grows.is))
+
 -- the children of one place more
 pub walked_more : (own : List (List ℕ)) (children : ℕ → List ℕ → List (List ℕ × ℕ)) (id : List ℕ) (kind passed : ℕ) (old new : List (ℕ × ℕ)) (s : ℕ × ℕ) → passed < length old → s ≡ get_or old passed s
     → Walked own children id kind passed old → Grows own (children s.1 (own_block own s.0)) old new → Walked own children id kind (passed + 1) new
 walked_more own children id kind passed old new s lt at walked grows =
-    let front : take (passed + 1) new ≡ take passed old ++ s ∷ [] =
-    ap (take (passed + 1)) grows.is ∙ take-append-le (passed + 1) old grows.more (omega (arith, lt)) ∙ take_more old passed s lt ∙ ap (λ x. take passed old ++ x ∷ []) (sym at) in
+    let front : take (passed + 1) new ≡ take passed old ++ s ∷ [] = passed_more passed old new grows.more s lt at grows.is in
     record {
       rooted = λ r one. subst (λ (xs : List (ℕ × ℕ)). IsIn r xs) (sym grows.is) (IsIn-left r old grows.more (walked.rooted r one));
       on = λ r among. ⊎_elim

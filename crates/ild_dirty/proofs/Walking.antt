@@ -1,5 +1,6 @@
 -- Places that a walk reaches.
 use Rattle.std.proofs.Common.{◌≡◌, ◌⊎◌, inl, inr, ⊎_elim, ℕ, suc, ◌+◌, ◌≤◌, ◌<◌, List, [], ◌∷◌, ◌++◌, length, get_or, Bool, true, false, cond, nat_eq, not, ◌-◌, Option, Some, None, refl, sym, ap, subst, ◌∙◌, arith}
+use Rattle.std.proofs.lemmas.List.Elements.{filter_map-append}
 use Rattle.std.proofs.lemmas.Option.{same_Some, none-some}
 use Rattle.std.proofs.lemmas.Bool.{and_parts, eqb-true}
 use Rattle.std.proofs.lemmas.List.{append_assoc, append-nil}
@@ -13,7 +14,7 @@ use Rattle.ild_edges.specs.Among.{IsIn}
 use Rattle.ild_edges.proofs.Among.{IsIn-left, IsIn-right, IsIn-append, IsIn-one}
 use Rattle.ild_dirty.specs.Own.{index_at}
 use Rattle.ild_dirty.specs.Beneath.{Place, Places, place, no_places, beside, block_of, place_kind, IsTree, AreTrees, HasPlace, HasPlaceBelow, AgreesWith, blocks_in, blocks_below}
-use Rattle.ild_dirty.specs.inside.Walk.{IsOwn, own_block, IsOneOf, Grows, AreSeen, is_same_spot}
+use Rattle.ild_dirty.specs.inside.Walk.{IsOwn, own_block, IsOneOf, Grows, AreSeen, is_same_spot, own_numbers}
 
 -- ---- one place more
 
@@ -96,6 +97,10 @@ grows_then own cs ds old mid new first last = record {
       (λ came. let one : IsOneOf own ds s = last.only s came in record { child = one.child; among = IsIn-right one.child cs ds one.among; found = one.found; kind = one.kind })
       (IsIn-append s first.more last.more among);
 }
+
+-- the numbers of one child more
+pub numbers_more : (own : List (List ℕ)) (cs ds all : List (List ℕ × ℕ)) (old new : List ℕ) → cs ++ ds ≡ all → old ≡ own_numbers own cs → new ≡ old ++ own_numbers own ds → new ≡ own_numbers own all
+numbers_more own cs ds all old new together was is = is ∙ ap (λ ns. ns ++ own_numbers own ds) was ∙ sym (filter_map-append (λ c. index_at own c.0) cs ds) ∙ ap (own_numbers own) together
 
 pub grows_no : (own : List (List ℕ)) (old : List (ℕ × ℕ)) → Grows own [] old old
 grows_no own old = record { more = []; is = sym (append-nil old); leads = λ s one. absurd one.among; only = λ s is. absurd is }

@@ -28,8 +28,8 @@ implicit_embodied rows f o part scalar left has h = by o (subst (IsFieldPart row
 
 -- ---- a body of no piece of the block, of each part
 
-pub implicit_left : (rows : List Row) (f : Field) (d : Data) (part : Part) (scalar : Bor Scalar) → part ≡ P.Implicit → IsFieldPart rows f (Some d) part → (piece_in (B.Implicit scalar) ≡ None) ↔ (is_implicit f.implicit d ≡ true)
-implicit_left rows f d part scalar left h = (λ none. subst (IsFieldPart rows f (Some d)) left h, λ is. refl)
+pub implicit_left : (rows : List Row) (f : Field) (d : Data) (part : Part) → part ≡ P.Implicit → IsFieldPart rows f (Some d) part → (◌≡◌ {A = Option Piece} None None) ↔ (is_implicit f.implicit d ≡ true)
+implicit_left rows f d part left h = (λ none. subst (IsFieldPart rows f (Some d)) left h, λ is. refl)
 
 null_written : (o : Option Scalar) → is_implicit o T.null ≡ true → ⊥
 null_written None e = cc

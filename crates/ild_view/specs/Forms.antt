@@ -1,5 +1,5 @@
 -- What a type's form says of its parts.
-use Rattle.std.specs.Prelude.{Bool, true, false, Option, Some, None}
+use Rattle.std.specs.Prelude.{Option, Some, None}
 use Rattle.ild_data.specs.declared.hamt_shape.HamtShape.{HamtShape}
 use Rattle.ild_schema.specs.Prelude.{anything}
 use Rattle.ild_schema.specs.declared.def.EnumDef.{EnumDef}

@@ -1,5 +1,6 @@
 -- The places that a walk reaches among a batch's own blocks, and an order of them in which children stand first.
-use Rattle.std.specs.Prelude.{◌≡◌, ◌⊎◌, ℕ, ◌+◌, ◌<◌, ◌≤◌, List, [], ◌∷◌, ◌++◌, length, get_or, Bool, true, false, ◌&&◌, ◌||◌, nat_eq, Some, if◌then◌else◌}
+use Rattle.std.specs.Prelude.{◌≡◌, ◌⊎◌, ℕ, ◌+◌, ◌<◌, ◌≤◌, List, [], ◌∷◌, ◌++◌, length, get_or, map, filter_map, Bool, true, false, ◌&&◌, ◌||◌, nat_eq, Some, if◌then◌else◌}
+use Rattle.std.specs.List.{list_all}
 use Rattle.std.specs.Option.{option_map_or}
 use Rattle.ild_data.specs.Spell.{id_of}
 use Rattle.ild_edges.specs.Among.{IsIn}
@@ -38,6 +39,18 @@ AreSeen has spots = (s : ℕ × ℕ) → has s ≡ true → IsIn s spots
 -- the children of each of these places lead on
 abbrev pub LeadOn : List (List ℕ) → (ℕ → List ℕ → List (List ℕ × ℕ)) → List (ℕ × ℕ) → List (ℕ × ℕ) → Type 0
 LeadOn own children passed spots = (s : ℕ × ℕ) → IsIn s passed → Leads own (children s.1 (own_block own s.0)) spots
+
+-- the numbers of those of these children that are the batch's own
+abbrev pub own_numbers : List (List ℕ) → List (List ℕ × ℕ) → List ℕ
+own_numbers own cs = filter_map (λ c. index_at own c.0) cs
+
+-- the numbers of the children of a block at its place
+abbrev pub numbers_of : List (List ℕ) → (ℕ → List ℕ → List (List ℕ × ℕ)) → ℕ × ℕ → List ℕ
+numbers_of own children s = own_numbers own (children s.1 (own_block own s.0))
+
+-- these numbers are noted of each place
+abbrev pub AreBelow : List (List ℕ) → (ℕ → List ℕ → List (List ℕ × ℕ)) → List (ℕ × ℕ) → List (List ℕ) → Type 0
+AreBelow own children spots below = below ≡ map (numbers_of own children) spots
 
 -- each of these places is one of the tree
 abbrev pub ArePlaces : List (List ℕ) → Place → List (ℕ × ℕ) → Type 0
@@ -92,6 +105,10 @@ Follows own children spots before (i ∷ is) = (is_in i before ≡ false) × Has
 abbrev pub AreStuck : List (List ℕ) → (ℕ → List ℕ → List (List ℕ × ℕ)) → List ℕ → List (ℕ × ℕ) → Type 0
 AreStuck own children order spots = (s : ℕ × ℕ) → IsIn s spots → (is_in s.0 order ≡ true) ⊎ (is_ready own children order s ≡ false)
 
+-- these blocks are all marked
+abbrev pub are_marked : List Bool → List ℕ → Bool
+are_marked marks is = list_all (λ i. get_or marks i false) is
+
 -- how many are not marked
 abbrev pub unmarked : List Bool → ℕ
 unmarked [] = 0
@@ -115,6 +132,10 @@ pub record PassesSpots (own : List (List ℕ)) (children : ℕ → List ℕ → 
   pub grown : length old ≤ length new
   pub longer : more ≡ true → length old < length new
   pub stuck : more ≡ false → AreStuck own children new spots
+
+-- what one pass leaves where these numbers are noted of the places
+abbrev pub Passes : List (ℕ × ℕ) → List (List ℕ) → List ℕ → List Bool → Bool → List ℕ → List Bool → Type 0
+Passes spots below old was more new marks = (own : List (List ℕ)) (children : ℕ → List ℕ → List (List ℕ × ℕ)) → AreBelow own children spots below → IsSoFar own children spots old was → PassesSpots own children spots old more new marks
 
 -- an order of the blocks that are reached, with children first
 pub record IsPlan (own : List (List ℕ)) (children : ℕ → List ℕ → List (List ℕ × ℕ)) (id : List ℕ) (kind : ℕ) (order : List ℕ) : Type 0 where
