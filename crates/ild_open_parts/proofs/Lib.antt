@@ -9,6 +9,7 @@ pub mod Limited
 pub mod Making
 pub mod Membering
 pub mod Refusing
+pub mod Spelling
 pub mod Turning
 pub mod Typing
 pub mod Wrongly

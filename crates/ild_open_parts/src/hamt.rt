@@ -7,7 +7,7 @@ ghost use Rattle.ild_open_parts.specs.Hamts.{IsSpelledRow, ListsRoot, RowAnswer,
 
 use crate::fault::OpenFault;
 use ild_bulk_walker::{Row, walk};
-use ild_cbor::{BlockWhy, Node, check};
+use ild_cbor::{BlockWhy, Node, known_root};
 use ild_data::{BlockId, HamtShape, KeyHash};
 use ild_edges::Store;
 use ild_node_slots::{HamtFault, root_of};
@@ -80,10 +80,7 @@ pub fn row_item<'r>(
     requires spelled { ∥ IsSpelledRow row.now ∥₁ }
     ensures { RowAnswer acc.now room key value row.now result }
 {
-    let item = match check(row.value.as_slice()) {
-        Ok(item) => item,
-        Err(_) => unreachable!(),
-    };
+    let item = known_root(row.value.as_slice());
     if let Err(fault) = check_key(alloc, acc, key, row.key.as_str(), room) {
         return Err(part_fault(row.block, fault));
     }

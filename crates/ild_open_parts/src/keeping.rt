@@ -1,14 +1,25 @@
 //! Parts of a value that are kept, where it is to be kept.
 ghost use Rattle.std.specs.Prelude.{◌≡◌, ◌++◌, ◌∷◌, [], is_some, true, OnOk, IfErr, IfOk};
-ghost use Rattle.ild_schema.specs.Value.{optionals_list, pairs_list, values_list};
+ghost use Rattle.ild_schema.specs.Value.{no_values, optionals_list, pairs_list, values_list};
 ghost use Rattle.ild_schema.specs.ValueSeen.{optional_of, value_of};
 ghost use Rattle.ild_open_parts.specs.Leaf.{IsImplied, IsUnionWith, scalar_value};
 ghost use Rattle.ild_open_parts.specs.declared.fault.OpenFault.TheVariants.{Memory};
 
 use crate::fault::OpenFault;
+use ild_cbor::Piece;
 use ild_data::Txt;
 use ild_schema::{Field, Scalar, Val, ValFields, ValPairs, ValPart, Vals};
 use std::alloc::{AllocError, Global};
+
+/// No element, with room for those of a list where they are to be kept.
+pub fn vals_for(alloc: Global, keep: bool, list: &Piece<'_>) -> Result<Vals, AllocError>
+    ensures { IfOk result (λ made. made ≡ no_values) }
+{
+    match list {
+        Piece::Node(node) if keep => Vals::with_room(alloc, node.count().unwrap_or(0) as usize),
+        _ => Ok(Vals::new(alloc)),
+    }
+}
 
 /// Appends an element where it is to be kept.
 pub fn add(vals: &mut Vals, keep: bool, val: Val) -> Result<(), AllocError>

@@ -14,6 +14,6 @@ pub use depth::levels;
 pub use fault::OpenFault;
 pub use field::{left_out, part_piece};
 pub use hamt::{hamt_rows, row_item, walk_fault};
-pub use keeping::{add, add_field, add_pair, union_with};
+pub use keeping::{add, add_field, add_pair, union_with, vals_for};
 pub use leaves::kept_leaf;
 pub use member::member_of;

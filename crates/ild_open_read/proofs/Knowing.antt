@@ -35,7 +35,7 @@ use Rattle.ild_open_known.specs.Covers.{Covers, IsKnownNode}
 use Rattle.ild_open_known.specs.Roots.{known_in, nodes_in}
 use Rattle.ild_open_known.specs.declared.kind.ReadAs.{ReadAs}
 use Rattle.ild_open_known.specs.declared.table.Known.{Known}
-use Rattle.ild_open_parts.specs.Hamts.{ListsRoot, ReadsHamt, ReadsListed, ReadsRows}
+use Rattle.ild_open_parts.specs.Hamts.{ListsRoot, ReadsHamt, ReadsListed}
 use Rattle.ild_open_parts.specs.Reads.{HasValue, OnlyReads}
 use Rattle.ild_open_parts.specs.declared.fault.OpenFault.{OpenFault}
 use Rattle.ild_open_parts.proofs.Hamting.{hamt_read}
@@ -108,16 +108,11 @@ pub still_sound : (h : List ℕ → List ℕ) (p : HamtShape) (at : List ℕ) (r
 still_sound h p at rows root m n r known lists sound = known_still h rows m n known (rows_only h p at root m n r rows lists) sound
 
 -- the rows of a root, and what they spell
-pub root_reads : (h : List ℕ → List ℕ) (p : HamtShape) (at : List ℕ) (rows : List Row) (schema : IsSchema rows) (legible : IsLegible rows) (room : ℕ) (keep : Bool) (key : TypeNo) (value : Slot) (piece : Piece) (listed : Vec Listed) (slice : List Listed) (m k n : Moment) (r : Result Val OpenFault)
-    → slice ≡ listed.items → ListsRoot h p at piece m (Ok listed) k → ReadsListed h rows room keep key value slice k r n → ReadsRoot h p at rows room keep key value piece m r n
-root_reads h p at rows schema legible room keep key value piece listed slice m k n r same lists read = λ s t key_at place whole stands is sum le some.
+pub hamt_reads : (h : List ℕ → List ℕ) (p : HamtShape) (at : List ℕ) (rows : List Row) (schema : IsSchema rows) (legible : IsLegible rows) (room : ℕ) (keep : Bool) (key : TypeNo) (value : Slot) (piece : Piece) (listed : Vec Listed) (m k n : Moment) (r : Result Val OpenFault)
+    → ListsRoot h p at piece m (Ok listed) k → ReadsListed h rows room keep key value listed.items k r n → ReadsHamt h p at rows room keep key value piece m r n
+hamt_reads h p at rows schema legible room keep key value piece listed m k n r lists read = λ s t key_at place whole stands is sum le front.
     let safe : IsSafe rows value = legible.clear.parts (base rows s.ty.0) (D.Map key key_at value place (MF.Hamt p)) is in
-    hamt_read h p at rows schema whole room keep s t key key_at value place some is sum le listed m k n (lists rows t stands) r (subst (λ xs. ReadsRows h rows room keep key value xs k r n) same (read safe))
-
-pub hamt_reads : (h : List ℕ → List ℕ) (p : HamtShape) (at : List ℕ) (rows : List Row) (schema : IsSchema rows) (legible : IsLegible rows) (room : ℕ) (keep : Bool) (key : TypeNo) (value : Slot) (piece : Piece) (listed : Vec Listed) (slice : List Listed) (m k n : Moment) (r : Result Val OpenFault)
-    → slice ≡ listed.items → ListsRoot h p at piece m (Ok listed) k → ReadsListed h rows room keep key value slice k r n → ReadsHamt h p at rows room keep key value piece m r n
-hamt_reads h p at rows schema legible room keep key value piece listed slice m k n r same lists read = λ s t key_at place whole stands is sum le front.
-    root_reads h p at rows schema legible room keep key value piece listed slice m k n r same lists read s t key_at place whole stands is sum le front.some
+    hamt_read h p at rows schema whole room keep s t key key_at value place front.some is sum le listed m k n (lists rows t stands) r (read safe)
 
 on_off : {b : Bool} → b ≡ false → b ≡ true → ⊥
 on_off off on = absurd cc

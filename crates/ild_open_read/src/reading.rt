@@ -32,11 +32,10 @@ use ild_layer_piece::{is_null_there, items};
 use ild_open_known::{Known, ReadAs};
 use ild_open_parts::{
     OpenFault, add, add_field, add_pair, hamt_rows, kept_leaf, left_out, levels, member_of,
-    part_piece, row_item, union_with,
+    part_piece, row_item, union_with, vals_for,
 };
 use ild_schema::{
     Accepted, Field, MapForm, Slot, StructDef, TypeDef, TypeNo, UnionDef, Val, ValFields, ValPairs,
-    Vals,
 };
 use ild_struct::{Part, layer};
 use ild_view_entries::{EntriesLeft, form_entries};
@@ -64,7 +63,7 @@ fn read_list<'b, K: Store, H: KeyHash>(
     let Some(mut left) = items(piece) else {
         unreachable!()
     };
-    let mut vals = Vals::new(reader.alloc);
+    let mut vals = vals_for(reader.alloc, reader.keep, piece)?;
     while let Some(item) = left.next() {
         let part = Piece::Node(item);
         let val = read_slot(reader, acc, elem, &part, room, at, known, store)?;
@@ -102,14 +101,14 @@ fn read_pairs<'b, K: Store, H: KeyHash>(
     Ok(Val::Map(kept))
 }
 
-// Reads the entries that rows spell, each in the block of its row.
+// Reads the entries that rows spell, each in the block of its row. The keys of the rows become those of the map.
 #[cycle(reads)]
-fn read_rows<'r, K: Store, H: KeyHash>(
+fn read_rows<K: Store, H: KeyHash>(
     reader: &Reader<'_, H>,
-    acc: &'r Accepted,
+    acc: &Accepted,
     key: TypeNo,
     value: Slot,
-    rows: &'r [Row],
+    rows: Vec<Row>,
     room: u32,
     known: &mut Known,
     store: &mut K,
@@ -117,20 +116,18 @@ fn read_rows<'r, K: Store, H: KeyHash>(
     requires keyed { key.0 < length acc.now }
     requires within { value.ty.0 < length acc.now }
     requires room { room ≤ 96 }
-    requires spelled { ∥ AllByRecursion IsSpelledRow rows.now ∥₁ }
+    requires spelled { ∥ AllByRecursion IsSpelledRow rows.items ∥₁ }
     requires sound { AreSound H.hash_of acc.now (K.moment store.old) known.old }
-    ensures reads { ReadsListed H.hash_of acc.now room reader.now.keep key value rows.now (K.moment store.old) result (K.moment store.new) }
+    ensures reads { ReadsListed H.hash_of acc.now room reader.now.keep key value rows.items (K.moment store.old) result (K.moment store.new) }
     ensures sound { AreSound H.hash_of acc.now (K.moment store.new) known.new }
 {
     acc.recall();
-    let mut pairs = ValPairs::new(reader.alloc);
-    let mut left = rows;
-    while let Some((row, behind)) = left.split_first() {
-        let item = row_item(reader.alloc, acc, key, value, row, room)?;
+    let mut pairs = ValPairs::with_room(reader.alloc, rows.len())?;
+    for row in rows {
+        let item = row_item(reader.alloc, acc, key, value, &row, room)?;
         let part = Piece::Node(item);
         let val = read_slot(reader, acc, value, &part, room, row.block, known, store)?;
-        add_pair(reader.alloc, &mut pairs, reader.keep, row.key.as_str(), val)?;
-        left = behind;
+        pairs.push((row.key, val))?;
     }
     Ok(Val::Map(pairs))
 }
@@ -197,21 +194,22 @@ fn read_hamt<'b, K: Store, H: KeyHash>(
     let Piece::Node(root) = piece else {
         unreachable!()
     };
+    if reader.keep {
+        let rows = hamt_rows(reader.alloc, shape, root, at, reader.keys, store)?;
+        return read_rows(reader, acc, key, value, rows, room, known, store);
+    }
     let read_as = ReadAs {
         key,
         value,
         shape,
         room,
     };
-    if reader.passes(known, read_as, root) {
+    let seat = read_as.seat(root.spelling());
+    if reader.passes(known, seat, read_as, root) {
         return Ok(Val::Null);
     }
-    if reader.keep {
-        let rows = hamt_rows(reader.alloc, shape, root, at, reader.keys, store)?;
-        return read_rows(reader, acc, key, value, rows.as_slice(), room, known, store);
-    }
     let val = pass_rows(reader, acc, key, value, shape, root, room, at, known, store)?;
-    reader.remembers(known, read_as, root);
+    reader.remembers(known, seat, read_as, root);
     Ok(val)
 }
 

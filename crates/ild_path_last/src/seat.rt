@@ -11,8 +11,8 @@ use crate::between::pair_change;
 use crate::change::LastChange;
 use ild_cbor::{Items, Piece};
 use ild_layer_piece::items;
-use ild_path_steps::{is_keyed, name_in_block};
-use ild_schema::Field;
+use ild_path_steps::is_keyed;
+use ild_schema::{Field, text_of_field};
 
 /// Where the pair with a key stands in a list of pairs, or would stand.
 #[derive(Clone, Copy)]
@@ -78,7 +78,7 @@ fn field_seat(items: Items<'_>, fields: &[Field], number: usize) -> Seat
     let mut place: u64 = 0;
     let mut i = 0;
     while i < number {
-        let name = name_in_block(&fields[i]);
+        let name = text_of_field(&fields[i]);
         i += 1;
         let Some(next) = behind(left, name) else {
             continue;
@@ -86,7 +86,7 @@ fn field_seat(items: Items<'_>, fields: &[Field], number: usize) -> Seat
         left = next;
         place = place.saturating_add(1);
     }
-    match behind(left, name_in_block(&fields[number])) {
+    match behind(left, text_of_field(&fields[number])) {
         Some(_) => Seat { place, there: true },
         None => Seat {
             place,
@@ -108,7 +108,7 @@ pub(crate) fn field_pair_change<'a>(
     match items(piece) {
         Some(items) => {
             let seat = field_seat(items, fields, number);
-            let name = name_in_block(&fields[number]);
+            let name = text_of_field(&fields[number]);
             pair_change(seat.place, name, seat.there, after)
         }
         None => LastChange::Nothing,

@@ -12,8 +12,7 @@ use crate::keys::key_change;
 use crate::new::{is_there, is_written};
 use crate::seat::field_pair_change;
 use ild_cbor::{Node, Piece};
-use ild_path_steps::name_in_block;
-use ild_schema::{Accepted, StructDef, StructForm};
+use ild_schema::{Accepted, StructDef, StructForm, text_of_field};
 
 // Whether a list has an item at a place.
 fn has_item(piece: &Piece<'_>, place: u64) -> bool
@@ -43,7 +42,7 @@ pub(crate) fn struct_change<'a>(
     let fields = def.fields.as_slice();
     let field = &fields[number];
     match &def.form {
-        StructForm::Map => key_change(acc, piece, name_in_block(field), is_written(field, new)),
+        StructForm::Map => key_change(acc, piece, text_of_field(field), is_written(field, new)),
         StructForm::Tuple => item_change(
             number as u64,
             has_item(piece, number as u64),

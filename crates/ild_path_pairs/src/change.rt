@@ -8,9 +8,8 @@ use crate::place::{Seat, field_seat, key_seat};
 use ild_cbor::Piece;
 use ild_data::Txt;
 use ild_layer_fields::is_implicit;
-use ild_path_steps::name_in_block;
 use ild_path_text::{PairChange, change_pair};
-use ild_schema::Field;
+use ild_schema::{Field, text_of_field};
 use ild_text::{PairParts, pairs, pairs_are_one};
 use ild_typed::pairs_are_pairs;
 use std::alloc::{AllocError, Global};
@@ -113,7 +112,7 @@ pub(crate) fn struct_text(
                 alloc,
                 joined,
                 seat,
-                name_in_block(field),
+                text_of_field(field),
                 written(field, new),
             )
         }

@@ -7,8 +7,7 @@ ghost use Rattle.ild_schema.specs.Marks.{field_text};
 ghost use Rattle.ild_schema.specs.declared.def.Field.{Field as Declared};
 ghost use Rattle.ild_text.specs.Parts.{pairs_in};
 
-use ild_path_steps::name_in_block;
-use ild_schema::Field;
+use ild_schema::{Field, text_of_field};
 use ild_text::PairParts;
 
 /// Where the pair of a key stands, or would stand.
@@ -57,7 +56,7 @@ pub(crate) fn field_seat(split: PairParts<'_>, fields: &[Field], number: usize) 
     let mut place: usize = 0;
     let mut i = 0;
     while i < number {
-        let name = name_in_block(&fields[i]);
+        let name = text_of_field(&fields[i]);
         i += 1;
         let Some(next) = behind(&left, name) else {
             continue;
@@ -65,7 +64,7 @@ pub(crate) fn field_seat(split: PairParts<'_>, fields: &[Field], number: usize) 
         left = next;
         place += 1;
     }
-    match behind(&left, name_in_block(&fields[number])) {
+    match behind(&left, text_of_field(&fields[number])) {
         Some(_) => Seat { place, there: true },
         None => Seat {
             place,

@@ -14,4 +14,3 @@ pub use ild_view::index;
 pub use pair::is_keyed;
 pub use part::steps_to;
 pub use steps::PartSteps;
-pub use structs::name_in_block;

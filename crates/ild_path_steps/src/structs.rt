@@ -1,24 +1,13 @@
 //! The fields of structs.
-ghost use Rattle.std.specs.Prelude.{◌≡◌, ◌<◌, List, length};
+ghost use Rattle.std.specs.Prelude.{◌<◌, List, length};
 ghost use Rattle.ild_layer_piece.specs.Pieces.{StandsFor};
-ghost use Rattle.ild_schema.specs.Marks.{field_text};
 ghost use Rattle.ild_schema.specs.declared.row.Row.{Row};
 ghost use Rattle.ild_path_steps.specs.Steps.{LeadsField, LiftsField};
 
 use crate::pair::pair_steps;
 use crate::steps::PartSteps;
 use ild_cbor::Piece;
-use ild_schema::{Field, StructDef, StructForm};
-
-/// The name of a field in a block.
-pub fn name_in_block(field: &Field) -> &str
-    ensures { result.now ≡ field_text field.now }
-{
-    match &field.rename {
-        Some(name) => name.as_str(),
-        None => field.name.as_str(),
-    }
-}
+use ild_schema::{StructDef, StructForm, text_of_field};
 
 /// The steps to the field with a number, which is written before a change and after it. A struct that stands as a text is
 /// replaced.
@@ -33,9 +22,9 @@ pub(crate) fn struct_steps<'a>(
 {
     let field = &def.fields.as_slice()[number];
     match &def.form {
-        StructForm::Map => Some(PartSteps::Entry(name_in_block(field))),
+        StructForm::Map => Some(PartSteps::Entry(text_of_field(field))),
         StructForm::Tuple => Some(PartSteps::Item(number as u64)),
-        StructForm::ListPairs => pair_steps(piece, name_in_block(field)),
+        StructForm::ListPairs => pair_steps(piece, text_of_field(field)),
         StructForm::StringPairs(_, _) | StructForm::StringJoin(_) => Some(PartSteps::Whole),
     }
 }

@@ -105,7 +105,8 @@ fn pass_node<'b, K: Store, H: KeyHash>(
         → PassesChild H.hash_of read_as.shape acc.now read_as.room read_as.key read_as.value above i id.0 (K.moment store.old) result (K.moment store.new) }
     ensures sound { AreSound H.hash_of acc.now (K.moment store.new) known.new }
 {
-    if known.has_node(read_as, id, way) {
+    let seat = read_as.seat_at(id, way);
+    if known.has_node(seat, read_as, id, way) {
         return Ok(());
     }
     let block = block_of(id, store)?;
@@ -114,7 +115,7 @@ fn pass_node<'b, K: Store, H: KeyHash>(
         Err(why) => return Err(OpenFault::Block { id, why }),
     };
     pass_slots(reader, acc, read_as, view, way, id, known, store)?;
-    known.add_node(reader.alloc, read_as, id, way);
+    known.add_node(reader.alloc, seat, read_as, id, way);
     Ok(())
 }
 

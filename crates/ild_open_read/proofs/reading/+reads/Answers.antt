@@ -1,6 +1,6 @@
-use Rattle.std.proofs.Common.{◌≡◌, ◌+◌, ◌^◌, ℕ, List, [], ◌∷◌, ◌++◌, length, Option, None, Some, false, refl, sym, ◌∙◌, ap, subst, arith}
+use Rattle.std.proofs.Common.{rules, ◌≡◌, ◌+◌, ◌^◌, ℕ, List, [], ◌∷◌, ◌++◌, length, Option, None, Some, false, refl, sym, ◌∙◌, ap, subst, arith}
 use Rattle.std.specs.Prelude.{Ok, Err, slice_get}
-use Rattle.std.specs.List.{AllByRecursion}
+use Rattle.std.specs.Vec.Iter.{into_iter_items}
 use Rattle.std.proofs.Math.Logic.{∥∥₁_elim, ∥∥₁_map}
 use Rattle.std.proofs.Props.{props}
 use Rattle.std.proofs.lemmas.Bool.{false≢true}
@@ -31,10 +31,10 @@ use Rattle.ild_typed.specs.Schema.{IsSchema}
 use Rattle.ild_open_parts.specs.Around.{levels_around}
 use Rattle.ild_open_parts.specs.Fields.{FieldFits}
 use Rattle.ild_open_parts.specs.Checked.{IsTyped}
-use Rattle.ild_open_parts.specs.Hamts.{IsSpelledRow, ReadsHamt}
+use Rattle.ild_open_parts.specs.Hamts.{ReadsHamt}
 use Rattle.ild_open_parts.proofs.Typing.{checked_layered, checked_typed, never_refused, rest_leaf, room_enough, root_item, typed_layered, typed_root}
 use Rattle.ild_open_read.proofs.Checking.{field_checked, has_entries, item_checked, list_elements, map_entries, member_checked, plain_piece, struct_fields, union_member}
-use Rattle.ild_open_read.proofs.Listing.{Listing, items_there, listing_begins, listing_ends, listing_front, listing_goes, listing_stops, listing_wants}
+use Rattle.ild_open_read.proofs.Listing.{Listing, items_there, listing_begins, listing_ends, listing_front, listing_full, listing_goes, listing_stops, listing_wants}
 use Rattle.ild_schema.specs.Fitting.{ImplicitFits}
 use Rattle.ild_open_read.proofs.Fielding.{Fielding, field_done, field_stops, fielding_begins, fielding_ends, fielding_front, fielding_goes, fielding_stops, fielding_wants}
 use Rattle.ild_open_parts.proofs.Forming.{struct_many}
@@ -65,9 +65,7 @@ use Rattle.ild_open_nodes.proofs.Slotting.{Given, Owned, bucket_passes, child_de
 use Rattle.ild_open_read.proofs.Noded.{at_bucket, at_child, at_empty, node_done, node_faulty, node_known, node_missing, node_stops, reads_entry}
 use Rattle.ild_open_read.proofs.Knowing.{hamt_reads, known_still, node_passed, node_remembered, passed, remembered, still_sound}
 use Rattle.ild_open_read.proofs.Passed.{root_ends, root_stops, root_whole}
-use Rattle.ild_open_read.proofs.Rowing.{Rowing, none_left, rowing_begins, rowing_ends, rowing_goes, rowing_refused, rowing_spelled, rowing_stops, rowing_wants}
-use Rattle.ild_schema.specs.Value.{pairs_list}
-use Rattle.ild_schema.specs.ValueSeen.{value_of}
+use Rattle.ild_open_read.proofs.Rowing.{Rowing, none_left, rowing_begins, rowing_ends, rowing_full, rowing_goes, rowing_refused, rowing_spelled, rowing_stops, rowing_wants}
 use Rattle.ild_open_read.proofs.Readying.{elem_low, field_low, key_low, left_there, map_delims, some_map_levels, some_struct_levels, value_low}
 use Rattle.ild_open_parts.proofs.Turning.{only_refl, member_read, member_stops, plain_read}
 use Rattle.ild_open_read.proofs.Wholly.{list_whole, map_whole, struct_whole, union_whole}
@@ -83,11 +81,18 @@ read_list-loop-item-init g t c = (
   tt,
   tt,
   λ ds stands fronts.
-      subst (λ v. Listing g.H.KeyHash.hash_of c.args.at.0 c.args.acc.now c.args.room c.args.reader.now.keep c.args.elem ds c.in-Some.left v (g.K.Store.moment c.args.store.now) (g.K.Store.moment c.args.store.now)) (sym c.new-vals.ensures)
+      subst (λ v. Listing g.H.KeyHash.hash_of c.args.at.0 c.args.acc.now c.args.room c.args.reader.now.keep c.args.elem ds c.in-Some.left v (g.K.Store.moment c.args.store.now) (g.K.Store.moment c.args.store.now)) (sym c.in_ok-vals.ensures)
       (listing_begins g.H.KeyHash.hash_of c.args.at.0 c.args.acc.now c.args.room c.args.reader.now.keep c.args.elem ds c.in-Some.left (g.K.Store.moment c.args.store.now) fronts
       (items_there ds c.in-Some.left (subst (λ o. Lists (items_in (T.list (T.items_of ds))) o) c.in-Some.is (c.items.ensures c.args.acc.now (T.list (T.items_of ds)) stands)))),
   c.requires.sound,
 )
+
+pub read_list-returns-in_err-vals-clause-reads : goal.read_list-returns-in_err-vals-clause-reads
+read_list-returns-in_err-vals-clause-reads g t c = λ ds stands fronts.
+    let begun = listing_begins g.H.KeyHash.hash_of c.args.at.0 c.args.acc.now c.args.room c.args.reader.now.keep c.args.elem ds c.in-Some.left (g.K.Store.moment c.args.store.now) fronts
+    (items_there ds c.in-Some.left (subst (λ o. Lists (items_in (T.list (T.items_of ds))) o) c.in-Some.is (c.items.ensures c.args.acc.now (T.list (T.items_of ds)) stands))) in
+    let p = err_from_is_err_and c.from_residual.result c.from_residual.ensures.1 in
+    rw (p.1, p.2) (listing_full g.H.KeyHash.hash_of c.args.at.0 c.args.acc.now c.args.room c.args.reader.now.keep c.args.elem ds c.in-Some.left V.no_values (g.K.Store.moment c.args.store.now) (g.K.Store.moment c.args.store.now) begun)
 
 pub read_list-unreachable-requires : goal.read_list-unreachable-requires
 read_list-unreachable-requires g t c =
@@ -105,7 +110,7 @@ read_list-read_slot-requires g t c = λ κs le.
 
 pub read_list-returns-in_err-val-clause-reads : goal.read_list-returns-in_err-val-clause-reads
 read_list-returns-in_err-val-clause-reads g t c = λ ds stands fronts.
-    let p = err_from_is_err_and c.from_residual.result c.from_residual.ensures.1 in
+    let p = err_from_is_err_and c.from_residual-in_err-val.result c.from_residual-in_err-val.ensures.1 in
     rw (p.1, p.2) (listing_stops g.H.KeyHash.hash_of c.args.at.0 c.args.acc.now c.args.room c.args.reader.now.keep c.args.elem ds c.loop-item.left c.next.new.self c.loop-item.vals _ _ _ c.in-Some-next.item c.in_err-val.field-0.0
     (c.loop-item.invariant.2 ds stands fronts) c.in-Some-next.ensures.steps (λ d s f. c.in_err-val.ensures.reads d s f))
 
@@ -269,8 +274,7 @@ read_hamt-returns-in_err-rows-clause-sound g t c =
 pub read_hamt-read_rows-requires : goal.read_hamt-read_rows-requires
 read_hamt-read_rows-requires g t c = λ κs le.
     let sound = still_sound g.H.KeyHash.hash_of c.args.shape c.args.at.0 c.args.acc.now c.in-Node.root (g.K.Store.moment c.args.store.now) (g.K.Store.moment c.hamt_rows.new.store) c.hamt_rows.result c.args.known.now c.hamt_rows.ensures.rows c.requires.sound in
-    let spelled = subst (λ xs. ∥ AllByRecursion IsSpelledRow xs ∥₁) (sym c.as_slice.ensures.value) c.in_ok-rows.ensures.spelled in
-    (omega arith, (le.0, (le.1, (c.requires.keyed, (c.requires.within, (c.requires.room, (spelled, sound)))))))
+    (omega arith, (le.0, (le.1, (c.requires.keyed, (c.requires.within, (c.requires.room, (c.in_ok-rows.ensures.spelled, sound)))))))
 
 pub read_hamt-returns-then-reader-clause-reads : goal.read_hamt-returns-then-reader-clause-reads
 read_hamt-returns-then-reader-clause-reads g t c =
@@ -279,8 +283,8 @@ read_hamt-returns-then-reader-clause-reads g t c =
     let m = g.K.Store.moment c.args.store.now in
     let n = g.K.Store.moment c.read_rows.new.store in
     subst (λ q. ReadsHamt h c.args.shape c.args.at.0 c.args.acc.now c.args.room c.args.reader.now.keep c.args.key c.args.value q m c.read_rows.result n) (sym c.in-Node.is)
-    (hamt_reads h c.args.shape c.args.at.0 c.args.acc.now schema c.recall.ensures.legible c.args.room c.args.reader.now.keep c.args.key c.args.value (P.Node c.in-Node.root) c.in_ok-rows.rows c.as_slice.result.now m (g.K.Store.moment c.hamt_rows.new.store) n
-    c.read_rows.result c.as_slice.ensures.value c.in_ok-rows.ensures.rows c.read_rows.ensures.reads)
+    (hamt_reads h c.args.shape c.args.at.0 c.args.acc.now schema c.recall.ensures.legible c.args.room c.args.reader.now.keep c.args.key c.args.value (P.Node c.in-Node.root) c.in_ok-rows.rows m (g.K.Store.moment c.hamt_rows.new.store) n
+    c.read_rows.result c.in_ok-rows.ensures.rows c.read_rows.ensures.reads)
 
 pub read_hamt-returns-in_err-val-clause-reads : goal.read_hamt-returns-in_err-val-clause-reads
 read_hamt-returns-in_err-val-clause-reads g t c = λ s d key_at place whole stands is sum le front.
@@ -309,60 +313,68 @@ pass_rows-returns-clause-reads g t c =
     root_ends g.H.KeyHash.hash_of c.args.shape c.args.at.0 c.args.acc.now c.args.room c.args.key c.args.value c.args.root.now schema c.recall.ensures.legible c.root_view-view.result c.root_view-view.ensures _ _ W.Null
     (λ slots has. c.in_ok-pass_slots.ensures.passes slots has)
 
+pub read_rows-returns-in_err-pairs-clause-reads : goal.read_rows-returns-in_err-pairs-clause-reads
+read_rows-returns-in_err-pairs-clause-reads g t c = λ safe.
+    let p = err_from_is_err_and c.from_residual.result c.from_residual.ensures.1 in
+    rw (p.1, p.2) (rowing_full g.H.KeyHash.hash_of c.args.acc.now c.args.room c.args.reader.now.keep c.args.key c.args.value c.args.rows.items c.args.rows.items V.no_pairs (g.K.Store.moment c.args.store.now) (g.K.Store.moment c.args.store.now) (rowing_begins g.H.KeyHash.hash_of c.args.acc.now c.args.room c.args.reader.now.keep c.args.key c.args.value c.args.rows.items (g.K.Store.moment c.args.store.now)))
+
 pub read_rows-loop-row-init : goal.read_rows-loop-row-init
 read_rows-loop-row-init g t c = (
-  subst (λ v. Rowing g.H.KeyHash.hash_of c.args.acc.now c.args.room c.args.reader.now.keep c.args.key c.args.value c.args.rows.now c.args.rows.now v (g.K.Store.moment c.args.store.now) (g.K.Store.moment c.args.store.now)) (sym c.new-pairs.ensures)
-      (rowing_begins g.H.KeyHash.hash_of c.args.acc.now c.args.room c.args.reader.now.keep c.args.key c.args.value c.args.rows.now (g.K.Store.moment c.args.store.now)),
+  tt,
+  tt,
+  subst (λ xs. Rowing g.H.KeyHash.hash_of c.args.acc.now c.args.room c.args.reader.now.keep c.args.key c.args.value c.args.rows.items xs c.in_ok-pairs.pairs (g.K.Store.moment c.args.store.now) (g.K.Store.moment c.args.store.now)) (sym c.into_iter-row-iterator.ensures.into_iter_gives.0)
+      (subst (λ v. Rowing g.H.KeyHash.hash_of c.args.acc.now c.args.room c.args.reader.now.keep c.args.key c.args.value c.args.rows.items c.args.rows.items v (g.K.Store.moment c.args.store.now) (g.K.Store.moment c.args.store.now)) (sym c.in_ok-pairs.ensures) (rowing_begins g.H.KeyHash.hash_of c.args.acc.now c.args.room c.args.reader.now.keep c.args.key c.args.value c.args.rows.items (g.K.Store.moment c.args.store.now))),
+  search rules,
   c.requires.sound,
 )
 
 pub read_rows-row_item-requires-clause-spelled : goal.read_rows-row_item-requires-clause-spelled
 read_rows-row_item-requires-clause-spelled g t c =
-    let x = subst (λ xs. Rowing g.H.KeyHash.hash_of c.args.acc.now c.args.room c.args.reader.now.keep c.args.key c.args.value c.args.rows.now xs c.loop-row.pairs (g.K.Store.moment c.args.store.now) (g.K.Store.moment c.loop-row.store)) c.in-Some.ensures.cases.0 c.loop-row.invariant.0 in
-    ∥∥₁_map c.requires.spelled (λ all. rowing_spelled g.H.KeyHash.hash_of c.args.acc.now c.args.room c.args.reader.now.keep c.args.key c.args.value c.args.rows.now _ _ c.loop-row.pairs _ _ x all)
+    let x = subst (λ xs. Rowing g.H.KeyHash.hash_of c.args.acc.now c.args.room c.args.reader.now.keep c.args.key c.args.value c.args.rows.items xs c.loop-row.pairs (g.K.Store.moment c.args.store.now) (g.K.Store.moment c.loop-row.store)) c.in-Some.ensures.steps.0 c.loop-row.invariant.2 in
+    ∥∥₁_map c.requires.spelled (λ all. rowing_spelled g.H.KeyHash.hash_of c.args.acc.now c.args.room c.args.reader.now.keep c.args.key c.args.value c.args.rows.items _ _ c.loop-row.pairs _ _ x all)
 
 pub read_rows-read_slot-requires : goal.read_rows-read_slot-requires
 read_rows-read_slot-requires g t c = λ κs le.
-    (omega arith, (le.0, (le.1, (c.requires.within, (tt, (λ over. absurd (false≢true over), (c.requires.room, (item_checked c.args.acc.now c.args.room c.args.key c.args.value _ _ c.in_ok-item.ensures, c.loop-row.invariant.1))))))))
+    (omega arith, (le.0, (le.1, (c.requires.within, (tt, (λ over. absurd (false≢true over), (c.requires.room, (item_checked c.args.acc.now c.args.room c.args.key c.args.value _ _ c.in_ok-item.ensures, c.loop-row.invariant.4))))))))
 
 pub read_rows-returns-in_err-item-clause-reads : goal.read_rows-returns-in_err-item-clause-reads
 read_rows-returns-in_err-item-clause-reads g t c = λ safe.
-    let rows : List Row = c.args.acc.now in
-    let schema : IsSchema rows = record { table = c.recall.ensures.table; accepted = c.recall.ensures.accepted } in
-    let x = subst (λ xs. Rowing g.H.KeyHash.hash_of rows c.args.room c.args.reader.now.keep c.args.key c.args.value c.args.rows.now xs c.loop-row.pairs (g.K.Store.moment c.args.store.now) (g.K.Store.moment c.loop-row.store)) c.in-Some.ensures.cases.0 c.loop-row.invariant.0 in
-    let p = err_from_is_err_and c.from_residual.result c.from_residual.ensures.1 in
-    rw (p.1, p.2) (rowing_refused g.H.KeyHash.hash_of rows c.args.room c.args.reader.now.keep c.args.key c.args.value c.args.rows.now schema c.recall.ensures.legible safe _ _ c.loop-row.pairs _ _ x c.in_err-item.field-0.0 c.in_err-item.ensures)
+    let schema : IsSchema c.args.acc.now = record { table = c.recall.ensures.table; accepted = c.recall.ensures.accepted } in
+    let x = subst (λ xs. Rowing g.H.KeyHash.hash_of c.args.acc.now c.args.room c.args.reader.now.keep c.args.key c.args.value c.args.rows.items xs c.loop-row.pairs (g.K.Store.moment c.args.store.now) (g.K.Store.moment c.loop-row.store)) c.in-Some.ensures.steps.0 c.loop-row.invariant.2 in
+    let p = err_from_is_err_and c.from_residual-in_err-item.result c.from_residual-in_err-item.ensures.1 in
+    rw (p.1, p.2) (rowing_refused g.H.KeyHash.hash_of c.args.acc.now c.args.room c.args.reader.now.keep c.args.key c.args.value c.args.rows.items schema c.recall.ensures.legible safe _ _ c.loop-row.pairs _ _ x c.in_err-item.field-0.0 c.in_err-item.ensures)
 
 pub read_rows-returns-in_err-val-clause-reads : goal.read_rows-returns-in_err-val-clause-reads
 read_rows-returns-in_err-val-clause-reads g t c = λ safe.
-    let rows : List Row = c.args.acc.now in
-    let x = subst (λ xs. Rowing g.H.KeyHash.hash_of rows c.args.room c.args.reader.now.keep c.args.key c.args.value c.args.rows.now xs c.loop-row.pairs (g.K.Store.moment c.args.store.now) (g.K.Store.moment c.loop-row.store)) c.in-Some.ensures.cases.0 c.loop-row.invariant.0 in
+    let x = subst (λ xs. Rowing g.H.KeyHash.hash_of c.args.acc.now c.args.room c.args.reader.now.keep c.args.key c.args.value c.args.rows.items xs c.loop-row.pairs (g.K.Store.moment c.args.store.now) (g.K.Store.moment c.loop-row.store)) c.in-Some.ensures.steps.0 c.loop-row.invariant.2 in
     let y = c.in_ok-item.ensures in
     let p = err_from_is_err_and c.from_residual-in_err-val.result c.from_residual-in_err-val.ensures.1 in
-    rw (p.1, p.2) (rowing_stops g.H.KeyHash.hash_of rows c.args.room c.args.reader.now.keep c.args.key c.args.value c.args.rows.now _ _ c.loop-row.pairs _ _ _ x c.in_ok-item.item y c.in_err-val.field-0.0 (c.in_err-val.ensures.reads y.tree y.stands y.front))
+    rw (p.1, p.2) (rowing_stops g.H.KeyHash.hash_of c.args.acc.now c.args.room c.args.reader.now.keep c.args.key c.args.value c.args.rows.items _ _ c.loop-row.pairs _ _ _ x c.in_ok-item.item y c.in_err-val.field-0.0 (c.in_err-val.ensures.reads y.tree y.stands y.front))
 
-pub read_rows-returns-in_err-add_pair-clause-reads : goal.read_rows-returns-in_err-add_pair-clause-reads
-read_rows-returns-in_err-add_pair-clause-reads g t c = λ safe.
-    let rows : List Row = c.args.acc.now in
-    let x = subst (λ xs. Rowing g.H.KeyHash.hash_of rows c.args.room c.args.reader.now.keep c.args.key c.args.value c.args.rows.now xs c.loop-row.pairs (g.K.Store.moment c.args.store.now) (g.K.Store.moment c.loop-row.store)) c.in-Some.ensures.cases.0 c.loop-row.invariant.0 in
+pub read_rows-returns-in_err-push-clause-reads : goal.read_rows-returns-in_err-push-clause-reads
+read_rows-returns-in_err-push-clause-reads g t c = λ safe.
+    let x = subst (λ xs. Rowing g.H.KeyHash.hash_of c.args.acc.now c.args.room c.args.reader.now.keep c.args.key c.args.value c.args.rows.items xs c.loop-row.pairs (g.K.Store.moment c.args.store.now) (g.K.Store.moment c.loop-row.store)) c.in-Some.ensures.steps.0 c.loop-row.invariant.2 in
     let y = c.in_ok-item.ensures in
-    let p = err_from_is_err_and c.from_residual-in_err-add_pair.result c.from_residual-in_err-add_pair.ensures.1 in
-    rw (p.1, p.2) (rowing_wants g.H.KeyHash.hash_of rows c.args.room c.args.reader.now.keep c.args.key c.args.value c.args.rows.now _ _ c.loop-row.pairs _ _ _ x c.in_ok-item.item y c.in_ok-val.val (c.in_ok-val.ensures.reads y.tree y.stands y.front))
+    let p = err_from_is_err_and c.from_residual-in_err-push.result c.from_residual-in_err-push.ensures.1 in
+    rw (p.1, p.2) (rowing_wants g.H.KeyHash.hash_of c.args.acc.now c.args.room c.args.reader.now.keep c.args.key c.args.value c.args.rows.items _ _ c.loop-row.pairs _ _ _ x c.in_ok-item.item y c.in_ok-val.val (c.in_ok-val.ensures.reads y.tree y.stands y.front))
 
 pub read_rows-loop-row-preserved : goal.read_rows-loop-row-preserved
-read_rows-loop-row-preserved g t c = (
-  let rows : List Row = c.args.acc.now in
-      let x = subst (λ xs. Rowing g.H.KeyHash.hash_of rows c.args.room c.args.reader.now.keep c.args.key c.args.value c.args.rows.now xs c.loop-row.pairs (g.K.Store.moment c.args.store.now) (g.K.Store.moment c.loop-row.store)) c.in-Some.ensures.cases.0 c.loop-row.invariant.0 in
-      let y = c.in_ok-item.ensures in
-      rowing_goes g.H.KeyHash.hash_of rows c.args.room c.args.reader.now.keep c.args.key c.args.value c.args.rows.now _ _ c.loop-row.pairs _ _ _ x c.in_ok-item.item y c.in_ok-val.val c.add_pair.new.pairs (c.in_ok-val.ensures.reads y.tree y.stands y.front)
-      (λ k. c.in_ok-add_pair.ensures k ∙ ap (λ q. pairs_list c.loop-row.pairs ++ (q, value_of c.in_ok-val.val) ∷ []) c.as_str.ensures.same),
-  c.in_ok-val.ensures.sound,
-)
+read_rows-loop-row-preserved g t c =
+    let x = subst (λ xs. Rowing g.H.KeyHash.hash_of c.args.acc.now c.args.room c.args.reader.now.keep c.args.key c.args.value c.args.rows.items xs c.loop-row.pairs (g.K.Store.moment c.args.store.now) (g.K.Store.moment c.loop-row.store)) c.in-Some.ensures.steps.0 c.loop-row.invariant.2 in
+    let y = c.in_ok-item.ensures in
+    let count = ap length c.in-Some.ensures.steps.0 in (
+      tt,
+      tt,
+      rowing_goes g.H.KeyHash.hash_of c.args.acc.now c.args.room c.args.reader.now.keep c.args.key c.args.value c.args.rows.items _ _ c.loop-row.pairs _ _ _ x c.in_ok-item.item y c.in_ok-val.val c.push.new.self (c.in_ok-val.ensures.reads y.tree y.stands y.front) (λ k. c.in_ok-push.ensures.ok),
+      omega (arith, count, c.in-Some.ensures.steps.1, c.loop-row.invariant.3),
+      c.in_ok-val.ensures.sound,
+    )
 
 pub read_rows-returns-clause-reads : goal.read_rows-returns-clause-reads
 read_rows-returns-clause-reads g t c = λ safe.
-    rowing_ends g.H.KeyHash.hash_of c.args.acc.now c.args.room c.args.reader.now.keep c.args.key c.args.value c.args.rows.now c.loop-row.pairs _ _ (W.Map c.loop-row.pairs) refl
-    (subst (λ xs. Rowing g.H.KeyHash.hash_of c.args.acc.now c.args.room c.args.reader.now.keep c.args.key c.args.value c.args.rows.now xs c.loop-row.pairs (g.K.Store.moment c.args.store.now) (g.K.Store.moment c.loop-row.store)) (none_left _ c.in_default.ensures.cases) c.loop-row.invariant.0)
+    let none = none_left (into_iter_items c.loop-row.row-iterator) (sym c.loop-row.invariant.3 ∙ c.in-None.ensures.steps.0) in
+    rowing_ends g.H.KeyHash.hash_of c.args.acc.now c.args.room c.args.reader.now.keep c.args.key c.args.value c.args.rows.items c.loop-row.pairs _ _ (W.Map c.loop-row.pairs) refl
+    (subst (λ xs. Rowing g.H.KeyHash.hash_of c.args.acc.now c.args.room c.args.reader.now.keep c.args.key c.args.value c.args.rows.items xs c.loop-row.pairs (g.K.Store.moment c.args.store.now) (g.K.Store.moment c.loop-row.store)) none c.loop-row.invariant.2)
 
 pub read_struct-unreachable-requires : goal.read_struct-unreachable-requires
 read_struct-unreachable-requires g t c =

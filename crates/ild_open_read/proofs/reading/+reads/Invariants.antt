@@ -1,5 +1,6 @@
 use Rattle.std.proofs.Common.{List, ℕ, ◌≡◌, ◌+◌, ◌-◌, ◌*◌, ◌^◌, Option, Some, length}
 use Rattle.std.specs.List.{AllByRecursion}
+use Rattle.std.specs.Vec.Iter.{into_iter_items, into_iter_len}
 use Rattle.ild_data.specs.Data as T
 use Rattle.ild_data.specs.Data.{Data}
 use Rattle.ild_view_entries.specs.Left.{AreLeft, most_left}
@@ -60,10 +61,10 @@ decreases-read_hamt g l = 2000 * l.room + 1601
 
 abbrev pub invariant-read_rows-loop-row : goal.invariant-read_rows-loop-row
 invariant-read_rows-loop-row g l =
-    Rowing g.H.KeyHash.hash_of l.acc l.room l.reader.keep l.key l.value l.rows l.left l.pairs (g.K.Store.moment l.initial.store) (g.K.Store.moment l.store) × AreSound g.H.KeyHash.hash_of l.acc (g.K.Store.moment l.store) l.known
-
-abbrev pub decreases-read_rows-loop-row : goal.decreases-read_rows-loop-row
-decreases-read_rows-loop-row g l = length l.left
+    (goal.iterator-read_rows-loop-row g).can_next l.row-iterator ×
+    (goal.iterator-read_rows-loop-row g).is_finite l.row-iterator ×
+    Rowing g.H.KeyHash.hash_of l.acc l.room l.reader.keep l.key l.value l.fn.rows.items (into_iter_items l.row-iterator) l.pairs (g.K.Store.moment l.initial.store) (g.K.Store.moment l.store) ×
+    (into_iter_len l.row-iterator ≡ length (into_iter_items l.row-iterator)) × AreSound g.H.KeyHash.hash_of l.acc (g.K.Store.moment l.store) l.known
 
 abbrev pub decreases-pass_rows : goal.decreases-pass_rows
 decreases-pass_rows g l = 2000 * l.room + 1600

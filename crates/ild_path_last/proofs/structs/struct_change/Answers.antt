@@ -13,7 +13,7 @@ pub returns-in-Map : goal.returns-in-Map
 returns-in-Map c = λ ds t s g d x u stands made clear named place new shown.
     let field = field_is _ c.args.def.now.fields s c.args.number c.index-fields-number.result g c.as_slice-fields.ensures c.index-fields-number.is place named in
     let written = c.is_written.ensures d new ∙ ap (λ z. is_some (written left_out z d)) field in
-    field_entry (StandsFor c.args.acc.now c.args.piece.now) c.args.def.now.fields ds t s g d x u c.key_change.result stands named c.args.def.now.form c.name_in_block.result.now (sym c.in-Map.is) (c.name_in_block.ensures ∙ ap field_text field) made clear
+    field_entry (StandsFor c.args.acc.now c.args.piece.now) c.args.def.now.fields ds t s g d x u c.key_change.result stands named c.args.def.now.form c.text_of_field.result.now (sym c.in-Map.is) (c.text_of_field.ensures ∙ ap field_text field) made clear
     (λ y at. c.key_change.ensures y _ x u at written (written_shown g d x shown))
 
 pub returns-in-Tuple : goal.returns-in-Tuple

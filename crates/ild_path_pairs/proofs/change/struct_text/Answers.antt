@@ -18,5 +18,5 @@ returns-in-Some c = λ ds es fresh k g made was apart named place anew.
     let field = field_is fs fs k c.args.number c.index-fields-number.result g refl c.index-fields-number.is place named in
     let at = ap (slice_get fs) place ∙ numbered k fs g named in
     let new = c.written.ensures ∙ ap (λ x. written left_out x d) field in
-    struct_told j.inner.now j.entry.now j.text.now seat.result c.with_pair.result fs c.args.number ds es fresh (pairs_in c.in-Some.split) k c.name_in_block.result.now g d (c.in-Some.ensures es was) seat.ensures.place (seat.ensures.there g at) made was apart named place
-    anew (c.name_in_block.ensures ∙ ap field_text field) (subst (λ x. TellsPair j.inner.now j.entry.now j.text.now seat.result c.name_in_block.result.now x c.with_pair.result) new c.with_pair.ensures)
+    struct_told j.inner.now j.entry.now j.text.now seat.result c.with_pair.result fs c.args.number ds es fresh (pairs_in c.in-Some.split) k c.text_of_field.result.now g d (c.in-Some.ensures es was) seat.ensures.place (seat.ensures.there g at) made was apart named place
+    anew (c.text_of_field.ensures ∙ ap field_text field) (subst (λ x. TellsPair j.inner.now j.entry.now j.text.now seat.result c.text_of_field.result.now x c.with_pair.result) new c.with_pair.ensures)
