@@ -25,7 +25,7 @@ fn is_refused(bytes: &[u8], kind: CborKind, at: usize) -> bool {
     }
 }
 
-/// Blocks that are refused, each with its first fault: one for each kind, and counts that no block can hold. More of them are cases of `show`
+/// Blocks that are refused, each with its first fault: one for each kind but the length and the depth, and counts that no block can hold. More of them are cases of `show`
 /// (`NO_BLOCKS` of tests/conformance/tables.py), and so is each front of that block.
 const FAULTS: [(&[u8], CborKind, usize); 14] = [
     (&[0xa1, 0x61, 0x61], Short, 3),
@@ -82,10 +82,18 @@ fn is_deepest(alloc: Global) -> Option<bool> {
     Some(check(&last).is_ok() && is_refused(&more, Depth, 96))
 }
 
+/// Whether a byte more than a block may have is told before anything that stands in it.
+fn is_longest(alloc: Global) -> Option<bool> {
+    let mut long = Vec::new(alloc);
+    long.resize(4_194_305, 0).ok()?;
+    Some(is_refused(&long, Size, 4_194_304))
+}
+
 #[test]
-fn fronts_and_levels(rt: HostRuntime) -> Result<(), Fail> {
+fn fronts_levels_and_length(rt: HostRuntime) -> Result<(), Fail> {
     let deepest = is_deepest(rt.alloc()) == Some(true);
-    assert!(rt; deepest && are_short(CLUB));
+    let longest = is_longest(rt.alloc()) == Some(true);
+    assert!(rt; deepest && longest && are_short(CLUB));
     Ok(())
 }
 

@@ -9,5 +9,6 @@ mod read;
 mod scalar;
 
 pub use fault::{ShownErr, ShownRule};
-pub use ild_value_shown::copy;
+pub use ild_schema::Val;
+pub use ild_value_shown::{copy, shown};
 pub use meaning::{from_shown, of_shown};
