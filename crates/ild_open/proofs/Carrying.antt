@@ -60,22 +60,22 @@ use Rattle.ild_open.proofs.Flatly.{no_broken}
 
 -- ---- the data of a piece
 
-module _ (h : List ℕ → List ℕ) (rows : List Row) (s : Slot) (piece : Piece) (at : List ℕ) (m n : Moment) where
-  read_answer : (Stopped : List ℕ → BlockWhy → Type 0) (t : Data) (r : Result Val OpenFault) → ((id : List ℕ) (why : BlockWhy) → BrokenPart h at rows 96 (s, t) m n id why → Stopped id why)
-      → Reads h at rows 96 (s, t) true m r n → DataAnswer h rows s Stopped t m r n
+module _ (h : List ℕ → List ℕ) (rows : List Row) (room : ℕ) (s : Slot) (piece : Piece) (at : List ℕ) (m n : Moment) where
+  read_answer : (Stopped : List ℕ → BlockWhy → Type 0) (t : Data) (r : Result Val OpenFault) → ((id : List ℕ) (why : BlockWhy) → BrokenPart h at rows room (s, t) m n id why → Stopped id why)
+      → Reads h at rows room (s, t) true m r n → DataAnswer h rows room s Stopped t m r n
   read_answer Stopped t (Ok val) more x =
-      from_more n (λ held. HasValue h rows 96 (s, t) true held val) (λ held. IsHeld (block_at held) h rows 96 s t (value_of val))
-      (λ held a. subst (λ v. IsHeld (block_at held) h rows 96 s t v) (sym (a.kept refl)) a.is) x.answer
+      from_more n (λ held. HasValue h rows room (s, t) true held val) (λ held. IsHeld (block_at held) h rows room s t (value_of val))
+      (λ held a. subst (λ v. IsHeld (block_at held) h rows room s t v) (sym (a.kept refl)) a.is) x.answer
   read_answer Stopped t (Err (F.Block id why)) more x = (x.answer.0, more id.0 why x.answer.1)
   read_answer Stopped t (Err F.Store) more x = x.answer
   read_answer Stopped t (Err F.Memory) more x = tt
 
   abbrev Read : Result Val OpenFault → Type 0
-  Read r = ReadsSlot h at rows 96 true s piece m r n
+  Read r = ReadsSlot h at rows room true s piece m r n
 
-  pub read_shown : ∥ IsChecked rows 96 s piece ∥₁ → (Stopped : Data → List ℕ → BlockWhy → Type 0)
-      → ((t : Data) → StandsFor rows piece t → (id : List ℕ) (why : BlockWhy) → BrokenPart h at rows 96 (s, t) m n id why → Stopped t id why)
-      → (r : Result Val OpenFault) → Read r → LoadsShown h rows s piece Stopped m r n
+  pub read_shown : ∥ IsChecked rows room s piece ∥₁ → (Stopped : Data → List ℕ → BlockWhy → Type 0)
+      → ((t : Data) → StandsFor rows piece t → (id : List ℕ) (why : BlockWhy) → BrokenPart h at rows room (s, t) m n id why → Stopped t id why)
+      → (r : Result Val OpenFault) → Read r → LoadsShown h rows room s piece Stopped m r n
   read_shown some Stopped more r x = record {
     only = only_of m n (∥∥₁_map some (λ y. (x y.tree y.stands y.front).only));
     each = λ t stands front.
@@ -84,35 +84,35 @@ module _ (h : List ℕ → List ℕ) (rows : List Row) (s : Slot) (piece : Piece
   }
 
   -- data that are no list and no map
-  pub flat_shown : ∥ IsChecked rows 96 s piece ∥₁ → ((t : Data) → StandsFor rows piece t → IsFlat t) → (r : Result Val OpenFault) → Read r → LoadsFlat h rows s piece m r n
-  flat_shown some flat r x = read_shown some (λ t id why. ⊥) (λ t stands id why b. no_broken h rows m.blocks m.lacks n.lacks at 96 s t id why (flat t stands) b) r x
+  pub flat_shown : ∥ IsChecked rows room s piece ∥₁ → ((t : Data) → StandsFor rows piece t → IsFlat t) → (r : Result Val OpenFault) → Read r → LoadsFlat h rows room s piece m r n
+  flat_shown some flat r x = read_shown some (λ t id why. ⊥) (λ t stands id why b. no_broken h rows m.blocks m.lacks n.lacks at room s t id why (flat t stands) b) r x
 
   -- of which no block is refused
-  pub never_refused : ∥ IsChecked rows 96 s piece ∥₁ → ((t : Data) → StandsFor rows piece t → IsFlat t) → (id : BlockId) (why : BlockWhy) → Read (Err (F.Block id why)) → ⊥
+  pub never_refused : ∥ IsChecked rows room s piece ∥₁ → ((t : Data) → StandsFor rows piece t → IsFlat t) → (id : BlockId) (why : BlockWhy) → Read (Err (F.Block id why)) → ⊥
   never_refused some flat id why x =
-      ∥∥₁_elim some (hlevel props) (λ y. no_broken h rows m.blocks m.lacks n.lacks at 96 s y.tree id.0 why (flat y.tree y.stands) (x y.tree y.stands y.front).answer.1)
+      ∥∥₁_elim some (hlevel props) (λ y. no_broken h rows m.blocks m.lacks n.lacks at room s y.tree id.0 why (flat y.tree y.stands) (x y.tree y.stands y.front).answer.1)
 
-module _ (h : List ℕ → List ℕ) (rows : List Row) (s : Slot) where
-  pub loads_piece : (at : List ℕ) (piece : Piece) (m n : Moment) (r : Result Val OpenFault) → ∥ IsChecked rows 96 s piece ∥₁ → ReadsSlot h at rows 96 true s piece m r n → LoadsPiece h rows s at piece m r n
-  loads_piece at piece m n r some x = read_shown h rows s piece at m n some (λ t id why. BrokenPart h at rows 96 (s, t) m n id why) (λ t stands id why b. b) r x
+module _ (h : List ℕ → List ℕ) (rows : List Row) (room : ℕ) (s : Slot) where
+  pub loads_piece : (at : List ℕ) (piece : Piece) (m n : Moment) (r : Result Val OpenFault) → ∥ IsChecked rows room s piece ∥₁ → ReadsSlot h at rows room true s piece m r n → LoadsPiece h rows room s at piece m r n
+  loads_piece at piece m n r some x = read_shown h rows room s piece at m n some (λ t id why. BrokenPart h at rows room (s, t) m n id why) (λ t stands id why b. b) r x
 
   -- where no block is refused, whatever is said of one
-  pub flat_loads : (at : List ℕ) (piece : Piece) (m n : Moment) (r : Result Val OpenFault) → LoadsFlat h rows s piece m r n → LoadsPiece h rows s at piece m r n
+  pub flat_loads : (at : List ℕ) (piece : Piece) (m n : Moment) (r : Result Val OpenFault) → LoadsFlat h rows room s piece m r n → LoadsPiece h rows room s at piece m r n
   flat_loads at piece m n r x = record { only = x.only; each = λ t stands front. let y = x.each t stands front in record { answer = by t r y.answer; only = y.only; gets = y.gets } }
     where
-      by : (t : Data) (r : Result Val OpenFault) → DataAnswer h rows s (λ id why. ⊥) t m r n → DataAnswer h rows s (λ id why. BrokenPart h at rows 96 (s, t) m n id why) t m r n
+      by : (t : Data) (r : Result Val OpenFault) → DataAnswer h rows room s (λ id why. ⊥) t m r n → DataAnswer h rows room s (λ id why. BrokenPart h at rows room (s, t) m n id why) t m r n
       by t (Ok val) y = y
       by t (Err (F.Block id why)) y = absurd y.1
       by t (Err F.Store) y = y
       by t (Err F.Memory) y = tt
 
   -- of an item that spells the data
-  pub loads_spelled : (q : Node) (d : Data) (m n : Moment) (r : Result Val OpenFault) → HasData q d → LoadsFlat h rows s (P.Node q) m r n → LoadsAlone h rows s d m r n
+  pub loads_spelled : (q : Node) (d : Data) (m n : Moment) (r : Result Val OpenFault) → HasData q d → LoadsFlat h rows room s (P.Node q) m r n → LoadsAlone h rows room s d m r n
   loads_spelled q d m n r stands x = record { only = x.only; loads = λ front. x.each d stands front }
 
 -- the item of bytes that spell the data
-pub spelled_tree : (rows : List Row) (s : Slot) (q : Node) (d : Data) → HasData q d → ∥ HasFront rows 96 (s, d) ∥₁ → ∥ IsChecked rows 96 s (P.Node q) ∥₁
-spelled_tree rows s q d stands some = ∥∥₁_map some (λ front. record { tree = d; stands = stands; front = front })
+pub spelled_tree : (rows : List Row) (room : ℕ) (s : Slot) (q : Node) (d : Data) → HasData q d → ∥ HasFront rows room (s, d) ∥₁ → ∥ IsChecked rows room s (P.Node q) ∥₁
+spelled_tree rows room s q d stands some = ∥∥₁_map some (λ front. record { tree = d; stands = stands; front = front })
 
 pub spelled_flat : (q : Node) (d : Data) → HasData q d → IsFlat d → (t : Data) → HasData q t → IsFlat t
 spelled_flat q d stands flat t other = subst IsFlat (one_tree_lem _ _ _ _ d t stands other) flat
@@ -170,11 +170,11 @@ module _ (rows : List Row) (s : Slot) where
         by false o e over = absurd (false≢true over)
 
 -- the piece of a view has a tree where the view shows data
-pub shown_tree : (view : View) (p : Piece) → piece_of view ≡ Some p → ∥ IsShallow view ∥₁ → ∥ IsChecked (table_of view) 96 (slot_of view) p ∥₁
-shown_tree view p is some =
+pub shown_tree : (room : ℕ) (view : View) (p : Piece) → piece_of view ≡ Some p → ∥ IsShallow room view ∥₁ → ∥ IsChecked (table_of view) room (slot_of view) p ∥₁
+shown_tree room view p is some =
     ∥∥₁_map some (λ y. record { tree = y.tree; stands = subst (λ b. BodyStands (table_of view) b y.tree) (held_piece (body_of view) p is) y.shown.stands; front = y.shown.front })
 
-module _ (h : List ℕ → List ℕ) (view : View) (at : List ℕ) (m n : Moment) where
+module _ (h : List ℕ → List ℕ) (room : ℕ) (view : View) (at : List ℕ) (m n : Moment) where
   abbrev rows : List Row
   rows = table_of view
 
@@ -182,18 +182,18 @@ module _ (h : List ℕ → List ℕ) (view : View) (at : List ℕ) (m n : Moment
   s = slot_of view
 
   abbrev Broken : Data → List ℕ → BlockWhy → Type 0
-  Broken t id why = BrokenPart h at rows 96 (s, t) m n id why
+  Broken t id why = BrokenPart h at rows room (s, t) m n id why
 
-  answered : (Stopped : List ℕ → BlockWhy → Type 0) (t : Data) → ((id : List ℕ) (why : BlockWhy) → Stopped id why → Broken t id why) → (r : Result Val OpenFault) → DataAnswer h rows s Stopped t m r n
-      → LoadAnswer h view at m t r n
+  answered : (Stopped : List ℕ → BlockWhy → Type 0) (t : Data) → ((id : List ℕ) (why : BlockWhy) → Stopped id why → Broken t id why) → (r : Result Val OpenFault) → DataAnswer h rows room s Stopped t m r n
+      → LoadAnswer h room view at m t r n
   answered Stopped t more (Ok val) x = x
   answered Stopped t more (Err (F.Block id why)) x = (x.0, more id.0 why x.1)
   answered Stopped t more (Err F.Store) x = x
   answered Stopped t more (Err F.Memory) x = tt
 
-  pub loads_view : (p : Piece) → piece_of view ≡ Some p → (r : Result Val OpenFault) → LoadsPiece h rows s at p m r n → Loads h view at m r n
+  pub loads_view : (p : Piece) → piece_of view ≡ Some p → (r : Result Val OpenFault) → LoadsPiece h rows room s at p m r n → Loads h room view at m r n
   loads_view p is r x =
-      let own : (t : Data) → IsShown view t → LoadsData h rows s (Broken t) t m r n =
+      let own : (t : Data) → IsShown room view t → LoadsData h rows room s (Broken t) t m r n =
       λ t shown. x.each t (subst (λ b. BodyStands rows b t) (held_piece (body_of view) p is) shown.stands) shown.front in
       record {
         answer = λ t shown. answered (Broken t) t (λ id why y. y) r (own t shown).answer;
@@ -202,10 +202,10 @@ module _ (h : List ℕ → List ℕ) (view : View) (at : List ℕ) (m n : Moment
       }
 
   -- of a value that the block leaves out
-  pub loads_scalar : (d : Data) → ((t : Data) → BodyStands rows (body_of view) t → d ≡ t) → (r : Result Val OpenFault) → LoadsAlone h rows s d m r n → Loads h view at m r n
+  pub loads_scalar : (d : Data) → ((t : Data) → BodyStands rows (body_of view) t → d ≡ t) → (r : Result Val OpenFault) → LoadsAlone h rows room s d m r n → Loads h room view at m r n
   loads_scalar d same r x =
-      let own : (t : Data) → IsShown view t → LoadsData h rows s (λ id why. ⊥) t m r n =
-      λ t shown. let is = same t shown.stands in subst (λ u. LoadsData h rows s (λ id why. ⊥) u m r n) is (x.loads (subst (λ u. HasFront rows 96 (s, u)) (sym is) shown.front)) in
+      let own : (t : Data) → IsShown room view t → LoadsData h rows room s (λ id why. ⊥) t m r n =
+      λ t shown. let is = same t shown.stands in subst (λ u. LoadsData h rows room s (λ id why. ⊥) u m r n) is (x.loads (subst (λ u. HasFront rows room (s, u)) (sym is) shown.front)) in
       record {
         answer = λ t shown. answered (λ id why. ⊥) t (λ id why y. absurd y) r (own t shown).answer;
         only = x.only;
@@ -213,8 +213,8 @@ module _ (h : List ℕ → List ℕ) (view : View) (at : List ℕ) (m n : Moment
       }
 
 -- what the tree of an implicit value is asked to be
-pub scalar_front : (view : View) (d : Data) → ((t : Data) → BodyStands (table_of view) (body_of view) t → d ≡ t) → ∥ IsShallow view ∥₁ → ∥ HasFront (table_of view) 96 (slot_of view, d) ∥₁
-scalar_front view d same some = ∥∥₁_map some (λ y. subst (λ u. HasFront (table_of view) 96 (slot_of view, u)) (sym (same y.tree y.shown.stands)) y.shown.front)
+pub scalar_front : (room : ℕ) (view : View) (d : Data) → ((t : Data) → BodyStands (table_of view) (body_of view) t → d ≡ t) → ∥ IsShallow room view ∥₁ → ∥ HasFront (table_of view) room (slot_of view, d) ∥₁
+scalar_front room view d same some = ∥∥₁_map some (λ y. subst (λ u. HasFront (table_of view) room (slot_of view, u)) (sym (same y.tree y.shown.stands)) y.shown.front)
 
 scalar_is_flat : (k : Scalar) → IsFlat (scalar_data k)
 scalar_is_flat (C.Bool b) = tt

@@ -14,7 +14,7 @@ use Rattle.ild_view_doc.specs.Docs.{block_in, table_in, type_in}
 use Rattle.ild_view_doc.specs.declared.doc.Doc.{Doc}
 
 pub root_is_shallow : (d : Doc) (view : View) → ∥ HasRoot (table_in d) (type_in d) (block_in d) ∥₁ → table_of view ≡ table_in d → slot_of view ≡ plainly (type_in d)
-    → ((f : Value) → IsRootBlock (table_in d) (type_in d) (block_in d) f → IsView view f) → ∥ IsShallow view ∥₁
+    → ((f : Value) → IsRootBlock (table_in d) (type_in d) (block_in d) f → IsView view f) → ∥ IsShallow 96 view ∥₁
 root_is_shallow d view some table slot front = ∥∥₁_map some (λ r.
     let v = front r.value r.root in
     record {

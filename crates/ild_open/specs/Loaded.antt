@@ -17,31 +17,31 @@ use Rattle.ild_open_parts.specs.Reads.{BrokenPart, OnlyReads}
 use Rattle.ild_open_parts.specs.declared.fault.OpenFault.{OpenFault}
 use Rattle.ild_open_parts.specs.declared.fault.OpenFault.TheVariants as F
 
--- the view shows these data, whose front nests at most 96 levels
-pub record IsShown (view : View) (t : Data) : Type 0 where
+-- the view shows these data, whose front nests so many levels at most
+pub record IsShown (room : ℕ) (view : View) (t : Data) : Type 0 where
   pub stands : BodyStands (table_of view) (body_of view) t
-  pub front : HasFront (table_of view) 96 (slot_of view, t)
+  pub front : HasFront (table_of view) room (slot_of view, t)
 
 -- there are such data
-pub record IsShallow (view : View) : Type 0 where
+pub record IsShallow (room : ℕ) (view : View) : Type 0 where
   pub tree : Data
-  pub shown : IsShown view tree
+  pub shown : IsShown room view tree
 
--- the value at the view that these data represent, where a store holds these blocks
-abbrev pub IsValueAt : (List ℕ → List ℕ) → List (List ℕ) → View → Data → Value → Type 0
-IsValueAt h held view t v = IsHeld (block_at held) h (table_of view) 96 (slot_of view) t v
+-- the value at the view that these data represent, which fits in the room, where a store holds these blocks
+abbrev pub IsValueAt : (List ℕ → List ℕ) → List (List ℕ) → ℕ → View → Data → Value → Type 0
+IsValueAt h held room view t v = IsHeld (block_at held) h (table_of view) room (slot_of view) t v
 
 -- of data that stand in the block `at`: a block is refused where something is wrong with a HAMT in them
-abbrev pub LoadAnswer : (List ℕ → List ℕ) → View → List ℕ → Moment → Data → Result Val OpenFault → Moment → Type 0
-LoadAnswer h view at m t (Ok val) n = FromBlocks n (λ held. IsValueAt h held view t (value_of val))
-LoadAnswer h view at m t (Err (F.Block id why)) n =
-    ((held : List (List ℕ)) (v : Value) → m.blocks ≡ Some held → IsValueAt h held view t v → ⊥) × BrokenPart h at (table_of view) 96 (slot_of view, t) m n id.0 why
-LoadAnswer h view at m t (Err F.Store) n = Rose m.faults n.faults
-LoadAnswer h view at m t (Err F.Memory) n = Unit {0}
+abbrev pub LoadAnswer : (List ℕ → List ℕ) → ℕ → View → List ℕ → Moment → Data → Result Val OpenFault → Moment → Type 0
+LoadAnswer h room view at m t (Ok val) n = FromBlocks n (λ held. IsValueAt h held room view t (value_of val))
+LoadAnswer h room view at m t (Err (F.Block id why)) n =
+    ((held : List (List ℕ)) (v : Value) → m.blocks ≡ Some held → IsValueAt h held room view t v → ⊥) × BrokenPart h at (table_of view) room (slot_of view, t) m n id.0 why
+LoadAnswer h room view at m t (Err F.Store) n = Rose m.faults n.faults
+LoadAnswer h room view at m t (Err F.Memory) n = Unit {0}
 
 -- the value at a view, in the block `at`, is loaded: by gets alone, no more of them than it has nodes of HAMTs
-pub record Loads (h : List ℕ → List ℕ) (view : View) (at : List ℕ) (m : Moment) (result : Result Val OpenFault) (n : Moment) : Type 0 where
-  pub answer : (t : Data) → IsShown view t → LoadAnswer h view at m t result n
+pub record Loads (h : List ℕ → List ℕ) (room : ℕ) (view : View) (at : List ℕ) (m : Moment) (result : Result Val OpenFault) (n : Moment) : Type 0 where
+  pub answer : (t : Data) → IsShown room view t → LoadAnswer h room view at m t result n
   pub only : OnlyReads m n
-  pub gets : (t : Data) (held : List (List ℕ)) (v : Value) → IsShown view t → m.blocks ≡ Some held → IsValueAt h held view t v
+  pub gets : (t : Data) (held : List (List ℕ)) (v : Value) → IsShown room view t → m.blocks ≡ Some held → IsValueAt h held room view t v
       → n.gets ≤ m.gets + length (nodes h (table_of view) (slot_of view) v)

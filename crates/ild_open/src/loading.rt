@@ -34,16 +34,18 @@ fn load_in<K: Store, H: KeyHash>(
     slot: Slot,
     piece: &Piece<'_>,
     at: BlockId,
+    room: u32,
     keys: &H,
     store: &mut K,
 ) -> Result<Val, OpenFault>
     requires within { slot.ty.0 < length acc.now }
     requires numbered { IsNumbered acc.now piece.now }
     requires inlined { IsInlined acc.now slot piece.now }
-    requires tree { ∥ IsChecked acc.now 96 slot piece.now ∥₁ }
-    ensures { ReadsSlot H.hash_of at.0 acc.now 96 true slot piece.now (K.moment store.old) result (K.moment store.new) }
+    requires room { room ≤ 96 }
+    requires tree { ∥ IsChecked acc.now room slot piece.now ∥₁ }
+    ensures { ReadsSlot H.hash_of at.0 acc.now room true slot piece.now (K.moment store.old) result (K.moment store.new) }
 {
-    read(alloc, acc, slot, piece, 96, true, at, keys, store)
+    read(alloc, acc, slot, piece, room, true, at, keys, store)
 }
 
 // The value for which a piece stands whose data are no list and no map: no HAMT is in it, so that no block is at fault.
@@ -52,18 +54,20 @@ fn load_flat<K: Store, H: KeyHash>(
     acc: &Accepted,
     slot: Slot,
     piece: &Piece<'_>,
+    room: u32,
     keys: &H,
     store: &mut K,
 ) -> Result<Val, OpenFault>
     requires within { slot.ty.0 < length acc.now }
     requires numbered { IsNumbered acc.now piece.now }
     requires inlined { IsInlined acc.now slot piece.now }
-    requires tree { ∥ IsChecked acc.now 96 slot piece.now ∥₁ }
+    requires room { room ≤ 96 }
+    requires tree { ∥ IsChecked acc.now room slot piece.now ∥₁ }
     requires flat { (t : Data) → StandsFor acc.now piece.now t → IsFlat t }
-    ensures { LoadsFlat H.hash_of acc.now slot piece.now (K.moment store.old) result (K.moment store.new) }
+    ensures { LoadsFlat H.hash_of acc.now room slot piece.now (K.moment store.old) result (K.moment store.new) }
 {
     // No block is at fault, so that any id does.
-    match load_in(alloc, acc, slot, piece, BlockId([0; 32]), keys, store) {
+    match load_in(alloc, acc, slot, piece, BlockId([0; 32]), room, keys, store) {
         Ok(val) => Ok(val),
         Err(OpenFault::Block { .. }) => unreachable!(),
         Err(OpenFault::Store) => Err(OpenFault::Store),
@@ -78,19 +82,21 @@ fn load_bytes<K: Store, H: KeyHash>(
     slot: Slot,
     tree: &Tree,
     bytes: &[u8],
+    room: u32,
     keys: &H,
     store: &mut K,
 ) -> Result<Val, OpenFault>
     requires within { slot.ty.0 < length acc.now }
-    requires front { ∥ HasFront acc.now 96 (slot, data_of tree.now) ∥₁ }
+    requires room { room ≤ 96 }
+    requires front { ∥ HasFront acc.now room (slot, data_of tree.now) ∥₁ }
     requires flat { IsFlat (data_of tree.now) }
     requires short { length (spell (data_of tree.now)) ≤ longest_block }
     requires is_tree { IsTree (data_of tree.now) }
     requires spelled { bytes.now ≡ spell (data_of tree.now) }
-    ensures { LoadsAlone H.hash_of acc.now slot (data_of tree.now) (K.moment store.old) result (K.moment store.new) }
+    ensures { LoadsAlone H.hash_of acc.now room slot (data_of tree.now) (K.moment store.old) result (K.moment store.new) }
 {
     match check(bytes) {
-        Ok(node) => load_flat(alloc, acc, slot, &Piece::Node(node), keys, store),
+        Ok(node) => load_flat(alloc, acc, slot, &Piece::Node(node), room, keys, store),
         Err(_) => unreachable!(),
     }
 }
@@ -101,21 +107,23 @@ fn load_alone<K: Store, H: KeyHash>(
     acc: &Accepted,
     slot: Slot,
     tree: &Tree,
+    room: u32,
     keys: &H,
     store: &mut K,
 ) -> Result<Val, OpenFault>
     requires within { slot.ty.0 < length acc.now }
-    requires front { ∥ HasFront acc.now 96 (slot, data_of tree.now) ∥₁ }
+    requires room { room ≤ 96 }
+    requires front { ∥ HasFront acc.now room (slot, data_of tree.now) ∥₁ }
     requires flat { IsFlat (data_of tree.now) }
     requires short { length (spell (data_of tree.now)) ≤ longest_block }
-    ensures { LoadsAlone H.hash_of acc.now slot (data_of tree.now) (K.moment store.old) result (K.moment store.new) }
+    ensures { LoadsAlone H.hash_of acc.now room slot (data_of tree.now) (K.moment store.old) result (K.moment store.new) }
 {
     // It does no work: its clause says that the data are a tree.
     tree.well_formed();
     let mut out = Emit::new(alloc);
     out.tree(tree)?;
     let bytes = out.finish();
-    load_bytes(alloc, acc, slot, tree, bytes.as_slice(), keys, store)
+    load_bytes(alloc, acc, slot, tree, bytes.as_slice(), room, keys, store)
 }
 
 // Whether an item is a list or a map.
@@ -137,19 +145,21 @@ fn load_node<K: Store, H: KeyHash>(
     slot: Slot,
     node: &Node<'_>,
     at: BlockAt<'_>,
+    room: u32,
     keys: &H,
     store: &mut K,
 ) -> Result<Val, OpenFault>
     requires within { slot.ty.0 < length acc.now }
     requires inlined { IsInlined acc.now slot (P.Node node.now) }
-    requires tree { ∥ IsChecked acc.now 96 slot (P.Node node.now) ∥₁ }
-    ensures { LoadsPiece H.hash_of acc.now slot (id_of (bytes_in at.entry)) (P.Node node.now) (K.moment store.old) result (K.moment store.new) }
+    requires room { room ≤ 96 }
+    requires tree { ∥ IsChecked acc.now room slot (P.Node node.now) ∥₁ }
+    ensures { LoadsPiece H.hash_of acc.now room slot (id_of (bytes_in at.entry)) (P.Node node.now) (K.moment store.old) result (K.moment store.new) }
 {
     let piece = Piece::Node(*node);
     if is_nest(node) {
-        return load_in(alloc, acc, slot, &piece, at.id(), keys, store);
+        return load_in(alloc, acc, slot, &piece, at.id(), room, keys, store);
     }
-    load_flat(alloc, acc, slot, &piece, keys, store)
+    load_flat(alloc, acc, slot, &piece, room, keys, store)
 }
 
 // The value for which a piece stands, in this block.
@@ -159,41 +169,54 @@ fn load_piece<K: Store, H: KeyHash>(
     slot: Slot,
     piece: &Piece<'_>,
     at: BlockAt<'_>,
+    room: u32,
     keys: &H,
     store: &mut K,
 ) -> Result<Val, OpenFault>
     requires within { slot.ty.0 < length acc.now }
     requires numbered { IsNumbered acc.now piece.now }
     requires inlined { IsInlined acc.now slot piece.now }
-    requires tree { ∥ IsChecked acc.now 96 slot piece.now ∥₁ }
-    ensures { LoadsPiece H.hash_of acc.now slot (id_of (bytes_in at.entry)) piece.now (K.moment store.old) result (K.moment store.new) }
+    requires room { room ≤ 96 }
+    requires tree { ∥ IsChecked acc.now room slot piece.now ∥₁ }
+    ensures { LoadsPiece H.hash_of acc.now room slot (id_of (bytes_in at.entry)) piece.now (K.moment store.old) result (K.moment store.new) }
 {
     match piece {
-        Piece::Node(node) => load_node(alloc, acc, slot, node, at, keys, store),
-        Piece::Inline(_, _) => { load_in(alloc, acc, slot, piece, at.id(), keys, store) }
-        Piece::Text(_) => load_flat(alloc, acc, slot, piece, keys, store),
-        Piece::Bytes(_) => load_flat(alloc, acc, slot, piece, keys, store),
+        Piece::Node(node) => load_node(alloc, acc, slot, node, at, room, keys, store),
+        Piece::Inline(_, _) => { load_in(alloc, acc, slot, piece, at.id(), room, keys, store) }
+        Piece::Text(_) => load_flat(alloc, acc, slot, piece, room, keys, store),
+        Piece::Bytes(_) => load_flat(alloc, acc, slot, piece, room, keys, store),
     }
 }
 
-/// The value at a view, whose data stand in this block, and all of whose HAMTs are read from the store, each block once. `Block` comes
-/// exactly where the store doesn't hold them, or where the value nests more than 96 levels with them. By itself the view's block nests no
-/// deeper: views are checked in a room of at most 96.
+/// The value at a view, whose data stand in this block, and all of whose HAMTs are read from the store, each block once. It may nest so
+/// many levels, as its view's data do by themselves. `Block` comes exactly where the store doesn't hold its HAMTs, or where the value
+/// nests deeper with them.
 pub fn load<K: Store, H: KeyHash>(
     alloc: Global,
     view: &View<'_>,
     at: BlockAt<'_>,
+    room: u32,
     keys: &H,
     store: &mut K,
 ) -> Result<Val, OpenFault>
-    requires shallow { ∥ IsShallow view.now ∥₁ }
-    ensures { Loads H.hash_of view.now (id_of (bytes_in at.entry)) (K.moment store.old) result (K.moment store.new) }
+    requires room { room ≤ 96 }
+    requires shallow { ∥ IsShallow room view.now ∥₁ }
+    ensures { Loads H.hash_of room view.now (id_of (bytes_in at.entry)) (K.moment store.old) result (K.moment store.new) }
 {
     match view.piece() {
-        Some(piece) => load_piece(alloc, view.schema(), view.slot(), &piece, at, keys, store),
+        Some(piece) => load_piece(
+            alloc,
+            view.schema(),
+            view.slot(),
+            &piece,
+            at,
+            room,
+            keys,
+            store,
+        ),
         None => {
             let tree = view.rep(alloc)?;
-            load_alone(alloc, view.schema(), view.slot(), &tree, keys, store)
+            load_alone(alloc, view.schema(), view.slot(), &tree, room, keys, store)
         }
     }
 }

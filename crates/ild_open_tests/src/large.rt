@@ -81,7 +81,7 @@ fn is_shown(alloc: Global, acc: &Accepted, ty: TypeNo, val: &Val, json: &str) ->
 fn loaded(alloc: Global, doc: &Doc<'_>, store: &mut MemStore) -> Option<Val> {
     let view = doc.view();
     let at = BlockAt::named(doc.block(), doc.root());
-    load(alloc, &view, at, &PadKeys, store).ok()
+    load(alloc, &view, at, 96, &PadKeys, store).ok()
 }
 
 /// Whether a root block of a type is opened, and its value is shown so where it is loaded, and where it is kept. The block is added to

@@ -22,7 +22,7 @@ const STRAYS: &[u8] =
 /// What is told of the value at the view of a document, in a word.
 fn told(alloc: Global, doc: &Doc<'_>, at: BlockAt<'_>, store: &mut MemStore) -> &'static str {
     let view = doc.view();
-    match load(alloc, &view, at, &PadKeys, store) {
+    match load(alloc, &view, at, 96, &PadKeys, store) {
         Ok(Val::Map(_)) => "map",
         Ok(_) => "other",
         Err(OpenFault::Block { id, why: _ }) => { if id == doc.root() { "root" } else { "node" } }

@@ -14,7 +14,8 @@ use Rattle.ild_path_changes.specs.Lift.{lift_within, whole}
 use Rattle.ild_splice.specs.Made.{MakesBytes}
 use Rattle.ild_splice.specs.Splices.{IsAt, Splices}
 use Rattle.ild_splice.specs.declared.error.SpliceErr.{SpliceErr}
-use Rattle.ild_path_apply.specs.Applies.{Applies, IsThere}
+use Rattle.ild_path_apply.specs.Applies.{Applies}
+use Rattle.ild_path_replaced.specs.There.{IsThere}
 use Rattle.ild_path_apply.proofs.Keeping.{kept, part_within}
 
 -- the bytes of one tree are those of the other

@@ -18,13 +18,6 @@ use Rattle.ild_path_steps.specs.declared.steps.PartSteps.TheVariants as P
 pub record Applies (n : Node) (e : Located) (result : Result (List ℕ) SpliceErr) : Type 0 where
   pub makes : (t d : Data) (q : List TreeStep) → IsAt n t q d → MakesBytes (spell (applied (lift_within q e) t)) result
 
--- the node of a part, exactly where there is the part
-abbrev pub IsThere : Data → List TreeStep → Option Data → Option Node → Type 0
-IsThere t q None None = Unit {0}
-IsThere t q None (Some m) = ⊥
-IsThere t q (Some e) None = ⊥
-IsThere t q (Some e) (Some m) = IsAt m t q e
-
 -- a part without an item that could be replaced alone
 abbrev pub has_no_item : PartSteps → Bool
 has_no_item P.Whole = true

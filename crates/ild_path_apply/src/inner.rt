@@ -9,9 +9,10 @@ ghost use Rattle.ild_path_changes.specs.Lift.{lift_within, whole as exchange};
 ghost use Rattle.ild_path_replaced.specs.Seen.{tree_steps};
 ghost use Rattle.ild_splice.specs.Splices.{pair_of};
 
-use crate::part::{part_of, place_in};
+use crate::place::place_in;
 use ild_cbor::{Kind, Node};
 use ild_data::Octets;
+use ild_path_replaced::part_of;
 use ild_path_steps::PartSteps;
 use ild_splice::{
     SpliceErr, insert_entry, insert_item, insert_pair, remove_entry, remove_item, replace,

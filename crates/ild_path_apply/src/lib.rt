@@ -8,6 +8,6 @@
 
 mod apply;
 mod inner;
-mod part;
+mod place;
 
 pub use apply::{applied, is_whole};

@@ -15,8 +15,9 @@ use Rattle.ild_schema.specs.Clear.{AreNamesApart}
 use Rattle.ild_schema.specs.Marks.{field_text}
 use Rattle.ild_schema.specs.declared.def.Field.{Field}
 use Rattle.ild_typed.specs.Fields.{field_entries}
-use Rattle.ild_path_last.specs.inside.Seats.{HasPairs, IsSeat, SeatIsBehind}
-use Rattle.ild_path_last.proofs.Seeking.{few_pairs, seat_of}
+use Rattle.ild_path_last.specs.inside.Seats.{SeatIsBehind}
+use Rattle.ild_path_steps.proofs.Pairing.{few_pairs, seat_of}
+use Rattle.ild_path_steps.specs.Seats.{HasPairs, IsSeat}
 
 no_pass : {A : Type 0} (k : List ℕ) (es : List (List ℕ × Data)) (t : Items) → value_at k es ≡ None → SeatIsBehind k es (Some t) → A
 no_pass k [] t h p = absurd p

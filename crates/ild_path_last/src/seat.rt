@@ -1,9 +1,8 @@
 //! Pairs in a list, by their keys.
 ghost use Rattle.std.specs.Prelude.{◌<◌, ℕ, List, Option, Some, length};
 ghost use Rattle.ild_data.specs.Data.{Data};
-ghost use Rattle.ild_data.specs.Key.{value_at};
-ghost use Rattle.ild_path_last.specs.inside.Seats.{ChangesAtKey, ChangesPair, FindsField, HasPairs, IsSeat, SeatIsBehind};
-ghost use Rattle.ild_path_changes.specs.Places.{place_of};
+ghost use Rattle.ild_path_last.specs.inside.Seats.{ChangesAtKey, ChangesPair, FindsField, SeatIsBehind};
+ghost use Rattle.ild_path_steps.specs.Seats.{HasPairs};
 ghost use Rattle.ild_layer_piece.specs.Pieces.{StandsFor};
 ghost use Rattle.ild_schema.specs.declared.row.Row.{Row};
 
@@ -11,33 +10,8 @@ use crate::between::pair_change;
 use crate::change::LastChange;
 use ild_cbor::{Items, Piece};
 use ild_layer_piece::items;
-use ild_path_steps::is_keyed;
+use ild_path_steps::{Seat, is_keyed, key_seat};
 use ild_schema::{Field, text_of_field};
-
-/// Where the pair with a key stands in a list of pairs, or would stand.
-#[derive(Clone, Copy)]
-pub(crate) struct Seat {
-    pub(crate) place: u64,
-    pub(crate) there: bool,
-}
-
-// The place of the pair with a key, or behind all pairs.
-fn key_seat(items: Items<'_>, key: &str) -> Seat
-    ensures { (es : List (List ℕ × Data)) → HasPairs items.entry es → IsSeat result (place_of key.now es) (value_at key.now es) }
-{
-    let mut left = items;
-    let mut place: u64 = 0;
-    while let Some(item) = left.next() {
-        if is_keyed(&item, key) {
-            return Seat { place, there: true };
-        }
-        place = place.saturating_add(1);
-    }
-    Seat {
-        place,
-        there: false,
-    }
-}
 
 /// The change of the pair at a key, in a map that is a list of pairs.
 pub(crate) fn key_pair_change<'a>(piece: &Piece<'_>, key: &'a str, after: bool) -> LastChange<'a>

@@ -7,5 +7,5 @@ mod node;
 mod touch;
 
 pub use along::replaced;
-pub use node::node_along;
+pub use node::{node_along, part_of};
 pub use touch::Touch;

@@ -2,5 +2,5 @@ pub mod Fielding
 pub mod Holding
 pub mod Leading
 pub mod Listing
-mod Pairing
+pub mod Pairing
 pub mod Standing

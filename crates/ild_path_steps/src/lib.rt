@@ -11,6 +11,6 @@ mod structs;
 mod union;
 
 pub use ild_view::index;
-pub use pair::is_keyed;
+pub use pair::{Seat, is_keyed, key_seat};
 pub use part::steps_to;
 pub use steps::PartSteps;

@@ -1,12 +1,12 @@
 //! Pairs in a list.
-ghost use Rattle.std.specs.Prelude.{◌≡◌, ℕ, List, Some, map};
+ghost use Rattle.std.specs.Prelude.{◌≡◌, ℕ, List, Some};
 ghost use Rattle.ild_cbor.specs.Nodes.{HasData};
-ghost use Rattle.ild_cbor.specs.Steps.{HasItems};
-ghost use Rattle.ild_data.specs.Data.{Data, items_of};
+ghost use Rattle.ild_data.specs.Data.{Data};
 ghost use Rattle.ild_data.specs.Key.{same_text, value_at};
 ghost use Rattle.ild_path_changes.specs.Places.{place_of};
 ghost use Rattle.ild_layer_piece.specs.Pieces.{StandsFor};
 ghost use Rattle.ild_schema.specs.declared.row.Row.{Row};
+ghost use Rattle.ild_path_steps.specs.Seats.{HasPairs, IsSeat};
 ghost use Rattle.ild_path_steps.specs.declared.steps.PartSteps.TheVariants as P;
 ghost use Rattle.ild_typed.specs.Strings.{listpairs, pair_data};
 
@@ -27,19 +27,31 @@ pub fn is_keyed(item: &Node<'_>, key: &str) -> bool
     }
 }
 
-// The place of the pair with a key.
-fn pair_place(items: Items<'_>, key: &str) -> Option<u64>
-    ensures { (es : List (List ℕ × Data)) (x : Data) → HasItems items.entry (items_of (map pair_data es)) → value_at key.now es ≡ Some x → result ≡ Some (place_of key.now es) }
+/// Where the pair with a key stands in a list of pairs, or would stand.
+#[derive(Clone, Copy)]
+pub struct Seat {
+    /// How many pairs stand before it.
+    pub place: u64,
+    /// Whether there is one.
+    pub there: bool,
+}
+
+/// The place of the pair with a key, or behind all pairs.
+pub fn key_seat(items: Items<'_>, key: &str) -> Seat
+    ensures { (es : List (List ℕ × Data)) → HasPairs items.entry es → IsSeat result (place_of key.now es) (value_at key.now es) }
 {
     let mut left = items;
     let mut place: u64 = 0;
     while let Some(item) = left.next() {
         if is_keyed(&item, key) {
-            return Some(place);
+            return Seat { place, there: true };
         }
         place = place.saturating_add(1);
     }
-    None
+    Seat {
+        place,
+        there: false,
+    }
 }
 
 /// The steps to the value at a key, in a list of pairs.
@@ -47,10 +59,14 @@ pub(crate) fn pair_steps<'a>(piece: &Piece<'_>, key: &str) -> Option<PartSteps<'
     ensures { (rows : List Row) (es : List (List ℕ × Data)) (x : Data) → StandsFor rows piece.now (listpairs es) → value_at key.now es ≡ Some x → result ≡ Some (P.Pair (place_of key.now es)) }
 {
     match items(piece) {
-        Some(items) => match pair_place(items, key) {
-            Some(place) => Some(PartSteps::Pair(place)),
-            None => None,
-        },
+        Some(items) => {
+            let seat = key_seat(items, key);
+            if seat.there {
+                Some(PartSteps::Pair(seat.place))
+            } else {
+                None
+            }
+        }
         None => None,
     }
 }

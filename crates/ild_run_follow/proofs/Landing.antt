@@ -1,11 +1,12 @@
 -- The part of a view to which segments lead, or the HAMT at which they stop, stands in the data of the view.
-use Rattle.std.proofs.Common.{◌≡◌, ◌⊎◌, inl, inr, ⊎_elim, ℕ, zero, suc, ◌-◌, Bool, true, false, true≢false, List, [], ◌∷◌, Option, Some, None, Ok, refl, sym, ap, ◌∙◌, subst}
+use Rattle.std.proofs.Common.{◌≡◌, ◌⊎◌, inl, inr, ⊎_elim, ℕ, zero, suc, Bool, true, false, true≢false, List, [], ◌∷◌, Option, Some, None, Ok, refl, sym, ap, ◌∙◌, subst}
 use Rattle.std.specs.Option.{option_map_or}
-use Rattle.std.proofs.lemmas.Option.{none-some, same_Some}
+use Rattle.std.proofs.lemmas.Option.{same_Some}
 use Rattle.ild_cbor.specs.declared.why.BlockWhy.{BlockWhy}
 use Rattle.ild_data.specs.Data.{Data}
-use Rattle.ild_open_held_parts.proofs.Parting.{part_fits}
+use Rattle.ild_bulk_walker.specs.Standing.{IsWrongOnTree}
 use Rattle.ild_open_parts.specs.Broken.{HasBrokenBlock, IsWrongIn}
+use Rattle.ild_run_follow.specs.Refuses.{IsBrokenSite}
 use Rattle.ild_open_parts.specs.Sites.{HasSite, IsPartIn, IsSite, Site}
 use Rattle.ild_path_edits.specs.Along.{room_below}
 use Rattle.ild_path_found.proofs.Rooted.{AnyPart, hamt_site, inner_part, of_any_part, own_data}
@@ -21,7 +22,6 @@ use Rattle.ild_schema.specs.declared.row.Row.{Row}
 use Rattle.ild_typed.specs.At.{InSlot, Reach, here, enter, no_path, or_enter, reached, seen}
 use Rattle.ild_typed.specs.Fits.{Fits, Front}
 use Rattle.ild_typed.specs.Hamt.{alone}
-use Rattle.ild_typed.specs.Pieces.{needs}
 use Rattle.ild_typed.specs.Represented.{represented}
 use Rattle.ild_typed.specs.Schema.{IsSchema}
 use Rattle.ild_typed.specs.Segment.{part}
@@ -31,19 +31,10 @@ use Rattle.ild_view.specs.Reaches.{Reaches}
 use Rattle.ild_view.specs.View.{table_of}
 use Rattle.ild_view.specs.declared.step.Step.TheVariants as S
 use Rattle.ild_view.specs.declared.view.View.{View}
-use Rattle.ild_run_follow.specs.Refuses.{LeadsTo}
+use Rattle.ild_run_follow.proofs.Rooms.{or_part, part_in, reach_part}
+use Rattle.ild_run_follow.specs.inside.Rooms.{room_reached}
 
 -- ---- what is reached
-
--- the part, or the HAMT that has to be entered
-abbrev pub reach_part : Reach → Option InSlot
-reach_part (here q) = Some q
-reach_part (enter q k) = Some q
-reach_part (no_path k) = None
-
-or_part : (k : ℕ) (slot : Slot) (v : Value) (q : InSlot) → reach_part (or_enter k slot v) ≡ Some q → (slot, v) ≡ q
-or_part k slot (V.hamt d) q e = same_Some (slot, V.hamt d) q e
-or_part k slot v q e = absurd (none-some q e)
 
 -- what is entered is a HAMT
 abbrev IsEntry : Reach → Type 0
@@ -89,15 +80,18 @@ module _ (rows : List Row) where
 
   -- ---- in the data
 
-  abbrev pub IsDataOf : InSlot → ℕ → Slot → Data → Type 0
-  IsDataOf q room s t = (s ≡ q.0) × Front rows room s q.1 t
+  -- the part q nests no deeper than what is left, and what stands in its data stands in the whole's
+  pub record Lands (room : ℕ) (p : InSlot) (t : Data) (less : ℕ) (q : InSlot) : Type 0 where
+    pub tree : Data
+    pub front : Front rows less q.0 q.1 tree
+    pub up : (z : Site) (steps : ℕ) → HasSite rows steps less q.0 tree z → (n : ℕ) × HasSite rows n room p.0 t z
 
-  pub record Lands (room : ℕ) (p : InSlot) (t : Data) (q : InSlot) : Type 0 where
-    pub steps : ℕ
-    pub leads : LeadsTo steps rows room p.0 t (λ r u x. IsDataOf q r u x)
-
-  at_once : (room : ℕ) (p q : InSlot) (t : Data) → Front rows room p.0 p.1 t → p ≡ q → Lands room p t q
-  at_once room p q t front e = record { steps = zero; leads = (ap (λ (x : InSlot). x.0) e, subst (λ (x : InSlot). Front rows room p.0 x.1 t) e front) }
+  at_once : (room : ℕ) (p q : InSlot) (t : Data) → Front rows room p.0 p.1 t → p ≡ q → Lands room p t room q
+  at_once room p q t front e = record {
+    tree = t;
+    front = subst (λ (x : InSlot). Front rows room x.0 x.1 t) e front;
+    up = λ z n has. (n, subst (λ (x : InSlot). HasSite rows n room x.0 t z) (sym e) has);
+  }
 
   any_lands : (k : ℕ) (p : InSlot) (path : List (List ℕ)) (q : InSlot) → AnyPart p → reach_part (reached rows k p path) ≡ Some q → AnyPart q
   any_lands k p [] q any is = subst (λ (x : InSlot). AnyPart x) (same_Some p q is) any
@@ -108,68 +102,79 @@ module _ (rows : List Row) where
     by (Some w) e at rest = rest w (inner_part rows anything any.0 s w (subst (λ (x : InSlot). part (seen rows x) s ≡ Some w) (sym any.1) e)) at
 
   module _ (law : PartsStandInData) (schema : IsSchema rows) where
-    pub lands : (k room : ℕ) (p : InSlot) (t : Data) (path : List (List ℕ)) (q : InSlot) → Front rows room p.0 p.1 t → reach_part (reached rows k p path) ≡ Some q → Lands room p t q ⊎ AnyPart q
+    abbrev LandsOn : ℕ → InSlot → Data → List (List ℕ) → InSlot → Type 0
+    LandsOn room p t path q = Lands room p t (room_reached rows room p path) q ⊎ AnyPart q
+
+    pub lands : (k room : ℕ) (p : InSlot) (t : Data) (path : List (List ℕ)) (q : InSlot) → Front rows room p.0 p.1 t → reach_part (reached rows k p path) ≡ Some q → LandsOn room p t path q
     lands k room p t [] q front is = inl (at_once room p q t front (same_Some p q is))
     lands k room p t (s ∷ ss) q front is = by (part (seen rows p) s) refl is (λ w d own at. lands (suc k) (room_below rows room p s) w d ss q own at) where
       through : (w : InSlot) (b : Bool) → is_any p.1 ≡ b → part (seen rows p) s ≡ Some w → reach_part (reached rows (suc k) w ss) ≡ Some q
-          → ((w : InSlot) (d : Data) → Front rows (room_below rows room p s) w.0 w.1 d → reach_part (reached rows (suc k) w ss) ≡ Some q → Lands (room_below rows room p s) w d q ⊎ AnyPart q)
-          → Lands room p t q ⊎ AnyPart q
+          → ((w : InSlot) (d : Data) → Front rows (room_below rows room p s) w.0 w.1 d → reach_part (reached rows (suc k) w ss) ≡ Some q → LandsOn (room_below rows room p s) w d ss q)
+          → Lands room p t (room_reached rows (room_below rows room p s) w ss) q ⊎ AnyPart q
       through w true any e at rest = inr (any_lands (suc k) w ss q (of_any_part rows p w s any e) at)
       through w false plain e at rest =
           let x = law rows schema room p w t s front plain e in
           ⊎_elim
-          (λ (r : Lands (room_below rows room p s) w x.tree q). inl (record {
-            steps = suc r.steps;
-            leads = record { type = x.type; form = x.form; slot = w.0; tree = x.tree; part = x.part; then = subst (λ n. LeadsTo r.steps rows n w.0 x.tree (λ l u d. IsDataOf q l u d)) x.left r.leads };
+          (λ (r : Lands (room_below rows room p s) w x.tree (room_reached rows (room_below rows room p s) w ss) q). inl (record {
+            tree = r.tree;
+            front = r.front;
+            up = λ z n has.
+                let y = r.up z n has in
+                (suc y.0, record { type = x.type; form = x.form; slot = w.0; tree = x.tree; part = x.part; then = subst (λ i. HasSite rows y.0 i w.0 x.tree z) x.left y.1 });
           }))
           (λ a. inr a) (rest w x.tree x.front at)
 
       by : (o : Option InSlot) → part (seen rows p) s ≡ o → reach_part (option_map_or (λ q. reached rows (suc k) q ss) o (or_enter k p.0 p.1)) ≡ Some q
-          → ((w : InSlot) (d : Data) → Front rows (room_below rows room p s) w.0 w.1 d → reach_part (reached rows (suc k) w ss) ≡ Some q → Lands (room_below rows room p s) w d q ⊎ AnyPart q)
-          → Lands room p t q ⊎ AnyPart q
+          → ((w : InSlot) (d : Data) → Front rows (room_below rows room p s) w.0 w.1 d → reach_part (reached rows (suc k) w ss) ≡ Some q → LandsOn (room_below rows room p s) w d ss q)
+          → Lands room p t (option_map_or (λ w. room_reached rows (room_below rows room p s) w ss) o room) q ⊎ AnyPart q
       by None e at rest = inl (at_once room p q t front (or_part k p.0 p.1 q at))
       by (Some w) e at rest = through w (is_any p.1) refl e at rest
 
-    -- the part nests no more levels than the whole may
-    pub fits_at : (k room : ℕ) (p : InSlot) (path : List (List ℕ)) (q : InSlot) → Fits rows room p.0 p.1 → reach_part (reached rows k p path) ≡ Some q → Fits rows room q.0 q.1
+    -- the part nests no more levels than are left
+    pub fits_at : (k room : ℕ) (p : InSlot) (path : List (List ℕ)) (q : InSlot) → Fits rows room p.0 p.1 → reach_part (reached rows k p path) ≡ Some q → Fits rows (room_reached rows room p path) q.0 q.1
     fits_at k room p [] q fits is = subst (λ (x : InSlot). Fits rows room x.0 x.1) (same_Some p q is) fits
-    fits_at k room p (s ∷ ss) q fits is = by (part (seen rows p) s) refl is (λ w own at. fits_at (suc k) room w ss q own at) where
+    fits_at k room p (s ∷ ss) q fits is = by (part (seen rows p) s) refl is (λ w own at. fits_at (suc k) (room_below rows room p s) w ss q own at) where
       by : (o : Option InSlot) → part (seen rows p) s ≡ o → reach_part (option_map_or (λ q. reached rows (suc k) q ss) o (or_enter k p.0 p.1)) ≡ Some q
-          → ((w : InSlot) → Fits rows room w.0 w.1 → reach_part (reached rows (suc k) w ss) ≡ Some q → Fits rows room q.0 q.1) → Fits rows room q.0 q.1
+          → ((w : InSlot) → Fits rows (room_below rows room p s) w.0 w.1 → reach_part (reached rows (suc k) w ss) ≡ Some q → Fits rows (room_reached rows (room_below rows room p s) w ss) q.0 q.1)
+          → Fits rows (option_map_or (λ w. room_reached rows (room_below rows room p s) w ss) o room) q.0 q.1
       by None e at rest = subst (λ (x : InSlot). Fits rows room x.0 x.1) (or_part k p.0 p.1 q at) fits
-      by (Some w) e at rest = rest w (part_fits rows schema room p w s fits e) at
-
--- what is said at the end of so many steps
-pub leads_more : (rows : List Row) (P Q : ℕ → Slot → Data → Type 0) → ((r : ℕ) (u : Slot) (x : Data) → P r u x → Q r u x) → (steps room : ℕ) (s : Slot) (t : Data) → LeadsTo steps rows room s t P → LeadsTo steps rows room s t Q
-leads_more rows P Q more zero room s t x = more room s t x
-leads_more rows P Q more (suc steps) room s t x =
-    record { type = x.type; form = x.form; slot = x.slot; tree = x.tree; part = x.part; then = leads_more rows P Q more steps (room - needs x.type t) x.slot x.tree x.then }
+      by (Some w) e at rest = rest w (part_in rows schema room p w s fits e) at
 
 -- ---- a HAMT there
 
-pub record HasSiteThere (rows : List Row) (room : ℕ) (s : Slot) (t : Data) (u : Slot) (tree : Data) (at : List ℕ) : Type 0 where
+pub record HasSiteThere (rows : List Row) (room : ℕ) (s : Slot) (t : Data) (less : ℕ) (u : Slot) (tree : Data) (at : List ℕ) : Type 0 where
   pub steps : ℕ
   pub site : Site
-  pub less : ℕ
   pub is : IsSite rows less u tree site
   pub here : site.block ≡ at
   pub has : HasSite rows steps room s t site
 
-pub site_there : (rows : List Row) (q : InSlot) (tree : Data) (at : List ℕ) → q.1 ≡ hamt tree → (steps room : ℕ) (s : Slot) (t : Data) → LeadsTo steps rows room s t (λ r u x. IsDataOf rows q r u x) → HasSiteThere rows room s t q.0 tree at
-site_there rows q tree at top zero room s t x =
-    let own : Front rows room s (hamt tree) t = subst (λ (v : Value). Front rows room s v t) top x.1 in
-    let y = hamt_site rows room s tree t own at in
-    record {
-      steps = zero;
-      site = y.site;
-      less = room;
-      is = subst (λ (u : Slot). IsSite rows room u tree y.site) x.0 y.is;
-      here = y.here;
-      has = subst (λ d. IsSite rows room s d y.site) (sym (own_data rows room s tree t own)) y.is;
-    }
-site_there rows q tree at top (suc steps) room s t x =
-    let r = site_there rows q tree at top steps (room - needs x.type t) x.slot x.tree x.then in
-    record { steps = suc r.steps; site = r.site; less = r.less; is = r.is; here = r.here; has = record { type = x.type; form = x.form; slot = x.slot; tree = x.tree; part = x.part; then = r.has } }
+pub site_there : (rows : List Row) (q : InSlot) (tree : Data) (at : List ℕ) → q.1 ≡ hamt tree → (room less : ℕ) (p : InSlot) (t : Data) → Lands rows room p t less q → HasSiteThere rows room p.0 t less q.0 tree at
+site_there rows q tree at top room less p t l =
+    let own : Front rows less q.0 (hamt tree) l.tree = subst (λ (v : Value). Front rows less q.0 v l.tree) top l.front in
+    let y = hamt_site rows less q.0 tree l.tree own at in
+    let up = l.up y.site zero (subst (λ d. IsSite rows less q.0 d y.site) (sym (own_data rows less q.0 tree l.tree own)) y.is) in
+    record { steps = up.0; site = y.site; is = y.is; here = y.here; has = up.1 }
+
+module _ (h : List ℕ → List ℕ) (rows : List Row) (blocks : Option (List (List ℕ))) (before now : ℕ) (at : List ℕ) (id : List ℕ) (why : BlockWhy) where
+  -- what is broken in the part's data is broken in the whole's
+  pub broken_up : (room less : ℕ) (p q : InSlot) (t : Data) (l : Lands rows room p t less q) → HasBrokenBlock h rows blocks before now at less q.0 l.tree id why → HasBrokenBlock h rows blocks before now at room p.0 t id why
+  broken_up room less p q t l x = by x.deep x.wrong where
+    by : (deep : ℕ) → IsWrongIn deep h rows blocks before now at less q.0 l.tree id why → HasBrokenBlock h rows blocks before now at room p.0 t id why
+    by zero w = absurd w
+    by (suc deep) w = let up = l.up w.site w.steps w.has in record { deep = suc deep; wrong = record { steps = up.0; site = w.site; has = up.1; here = w.here; wrong = w.wrong } }
+
+  pub broken_site : (room : ℕ) (s : Slot) (t : Data) (less : ℕ) (u : Slot) (tree : Data) (x : HasSiteThere rows room s t less u tree at) → IsBrokenSite h rows blocks before now x.site id why
+      → HasBrokenBlock h rows blocks before now at room s t id why
+  broken_site room s t less u tree x (inl (inl w)) = record {
+    deep = suc zero;
+    wrong = record { steps = x.steps; site = x.site; has = x.has; here = x.here; wrong = inl (subst (λ b. IsWrongOnTree h x.site.shape blocks x.site.slots b before now id why) x.here w) };
+  }
+  broken_site room s t less u tree x (inl (inr w)) = record { deep = suc zero; wrong = record { steps = x.steps; site = x.site; has = x.has; here = x.here; wrong = inr (inl w) } }
+  broken_site room s t less u tree x (inr w) = record {
+    deep = suc w.wrong.deep;
+    wrong = record { steps = x.steps; site = x.site; has = x.has; here = x.here; wrong = inr (inr (record { block = w.block; key = w.key; value = w.value; entry = w.entry; wrong = w.wrong.wrong })) };
+  }
 
 -- ---- none in an Any
 
@@ -191,9 +196,8 @@ none_broken rows schema h blocks before now at room t id why x = by x.deep x.wro
 
 -- ---- the part's own data
 
-pub one_data : (rows : List Row) (q : InSlot) (w : View) (x : IsPartView rows q w) (room : ℕ) (s : Slot) (t : Data) → IsDataOf rows q room s t → x.view.tree ≡ t
-one_data rows q w x room s t own =
+pub one_data : (rows : List Row) (q : InSlot) (w : View) (x : IsPartView rows q w) (less : ℕ) (t : Data) → Front rows less q.0 q.1 t → x.view.tree ≡ t
+one_data rows q w x less t own =
     let there : represented alone rows q.0 q.1 ≡ Some x.view.tree =
     subst (λ (r : List Row). represented alone r q.0 q.1 ≡ Some x.view.tree) x.table (subst (λ (u : Slot). represented alone (table_of w) u q.1 ≡ Some x.view.tree) x.slot x.view.front.tree) in
-    let here : represented alone rows q.0 q.1 ≡ Some t = subst (λ (u : Slot). represented alone rows u q.1 ≡ Some t) own.0 own.1.tree in
-    same_Some x.view.tree t (sym there ∙ here)
+    same_Some x.view.tree t (sym there ∙ own.tree)

@@ -11,7 +11,7 @@ use Rattle.ild_data.specs.declared.tree.Tree.{Tree}
 use Rattle.ild_edges.specs.Store.{Moment, block_at}
 use Rattle.ild_typed_fronts.specs.Front.{front, front_in, is_hamt, is_root}
 use Rattle.ild_open_held_parts.proofs.Leading.{paths_lead}
-use Rattle.ild_open_held_parts.specs.Leads.{CountsHamts, Leads, LeadsHere, LeadsIn}
+use Rattle.ild_open_held_parts.specs.Leads.{CountsHamts, IsFrontOf, Leads, LeadsHere, LeadsIn}
 use Rattle.ild_open_parts.specs.Reads.{OnlyReads}
 use Rattle.ild_script_meaning.specs.Costs.{met_in}
 use Rattle.ild_schema.specs.Slots.{form_of}
@@ -31,13 +31,15 @@ use Rattle.ild_view.specs.declared.step.NoPath.{NoPath}
 use Rattle.ild_view.specs.declared.step.Step.{Step}
 use Rattle.ild_view.specs.declared.step.Step.TheVariants as S
 use Rattle.ild_view.specs.declared.view.View.{View}
-use Rattle.ild_run_follow.specs.Tells.{FailsOnly, ViewIsHeld, TellAnswer, TellsFrom, TellsHere, TellsIn, TellsNothing, counts, part_nodes}
+use Rattle.ild_run_follow.specs.Tells.{FailsOnly, ViewHolds, TellAnswer, TellsFrom, TellsHere, TellsIn, TellsNothing, counts, part_nodes}
 use Rattle.ild_run_follow.specs.Told.{told}
 use Rattle.ild_run_follow.specs.declared.fault.ReadFault.{ReadFault}
 use Rattle.ild_run_follow.specs.declared.fault.ReadFault.TheVariants as F
 use Rattle.ild_run_follow.specs.declared.kind.Tell.{Tell}
 use Rattle.ild_run_follow.specs.declared.kind.Tell.TheVariants as T
+use Rattle.ild_run_follow.proofs.Rooms.{IsLeft, is_left, reach_part, room_low}
 use Rattle.ild_run_follow.proofs.Standing.{part_at, viewed}
+use Rattle.ild_run_follow.specs.inside.Rooms.{LeavesRoom, room_reached}
 
 -- ---- no get at all
 
@@ -96,30 +98,32 @@ hamts_count h rows p k e = by p.0 p.1 e where
 
 -- ---- what is reached
 
-module _ (h : List ℕ → List ℕ) (rows : List Row) (block : List ℕ → Option (List ℕ)) (k : ℕ) (p : InSlot) (path : List (List ℕ)) where
-  record IsHere (view : View) : Type 0 where
+module _ (h : List ℕ → List ℕ) (rows : List Row) (block : List ℕ → Option (List ℕ)) (room k : ℕ) (p : InSlot) (path : List (List ℕ)) where
+  record IsHere (r : Reach) (view : View) : Type 0 where
     q : InSlot
+    is : reach_part r ≡ Some q
     view_is : IsPartView rows q view
-    leads : LeadsHere block h rows 96 q p path
+    leads : LeadsHere block h rows room q p path
 
-  to_here : (r : Reach) (view : View) → Reaches rows r (Ok (S.Here view)) → Leads block h rows 96 k p path r → IsHere view
-  to_here (here q) view reaches leads = record { q = q; view_is = reaches; leads = leads }
+  to_here : (r : Reach) (view : View) → Reaches rows r (Ok (S.Here view)) → Leads block h rows room k p path r → IsHere r view
+  to_here (here q) view reaches leads = record { q = q; is = refl; view_is = reaches; leads = leads }
   to_here (enter q j) view reaches leads = absurd reaches
   to_here (no_path j) view reaches leads = absurd reaches
 
-  record IsIn (view : View) (j : ℕ) : Type 0 where
+  record IsIn (r : Reach) (view : View) (j : ℕ) : Type 0 where
     q : InSlot
+    is : reach_part r ≡ Some q
     view_is : IsPartView rows q view
     n : ℕ
     at_is : j ≡ k + n
-    leads : LeadsIn block h rows 96 q p n path
+    leads : LeadsIn block h rows room q p n path
 
-  to_enter : (r : Reach) (view : View) (j : ℕ) → Reaches rows r (Ok (S.Enter view j)) → Leads block h rows 96 k p path r → IsIn view j
+  to_enter : (r : Reach) (view : View) (j : ℕ) → Reaches rows r (Ok (S.Enter view j)) → Leads block h rows room k p path r → IsIn r view j
   to_enter (here q) view j reaches leads = absurd reaches
-  to_enter (enter q i) view j reaches leads = record { q = q; view_is = reaches.0; n = leads.0; at_is = reaches.1 ∙ leads.1; leads = leads.2 }
+  to_enter (enter q i) view j reaches leads = record { q = q; is = refl; view_is = reaches.0; n = leads.0; at_is = reaches.1 ∙ leads.1; leads = leads.2 }
   to_enter (no_path i) view j reaches leads = absurd reaches
 
-  to_none : (r : Reach) (e : NoPath) → Reaches rows r (Err e) → Leads block h rows 96 k p path r → at rows p path ≡ None
+  to_none : (r : Reach) (e : NoPath) → Reaches rows r (Err e) → Leads block h rows room k p path r → at rows p path ≡ None
   to_none (here q) e reaches leads = absurd reaches
   to_none (enter q i) e reaches leads = absurd reaches
   to_none (no_path i) e reaches leads = leads
@@ -201,30 +205,42 @@ drop_front : (xs ys : List (List ℕ)) → drop (length xs) (xs ++ ys) ≡ ys
 drop_front [] ys = refl
 drop_front (x ∷ xs) ys = drop_front xs ys
 
-module _ (h : List ℕ → List ℕ) (view : View) (schema : IsSchema (table_of view)) (k : ℕ) (path : List (List ℕ)) (tell : Tell) (m n : Moment) (result : Result Tree ReadFault) where
+module _ (h : List ℕ → List ℕ) (room : ℕ) (low : room ≤ 96) (view : View) (schema : IsSchema (table_of view)) (k : ℕ) (path : List (List ℕ)) (tell : Tell) (m n : Moment) (result : Result Tree ReadFault) where
   abbrev rows : List Row
   rows = table_of view
 
   abbrev At : Value → InSlot
   At v = (slot_of view, v)
 
-  leads_at : (t : Data) (v : Value) (x : ViewIsHeld h view m t v) → Leads (block_at x.held) h rows 96 k (At v) path (reached rows k (front_in h rows (At v)) path)
-  leads_at t v x = paths_lead (block_at x.held) h rows schema 96 k (At v) t path x.value
+  abbrev ReachIn : Value → Reach
+  ReachIn v = reached rows k (front_in h rows (At v)) path
+
+  leads_at : (t : Data) (v : Value) (x : ViewHolds h room view m t v) → Leads (block_at x.held) h rows room k (At v) path (ReachIn v)
+  leads_at t v x = paths_lead (block_at x.held) h rows schema room k (At v) t path x.value
+
+  -- the part that is reached nests no deeper than what is left
+  there : (less : ℕ) → LeavesRoom view room path less → (t : Data) (v : Value) (x : ViewHolds h room view m t v) (q p : InSlot) (w : View) → reach_part (ReachIn v) ≡ Some q → IsPartView rows q w
+      → (y : IsFrontOf (block_at x.held) h rows room q p) → ViewHolds h less w m y.tree p.1
+  there less leaves t v x q p w is view_is y =
+      let same : less ≡ room_reached rows room (front_in h rows (At v)) path = leaves (front h rows (slot_of view) v) (viewed h room view m t v schema x) in
+      let le = room_low rows room (front_in h rows (At v)) path in
+      let left = is_left (block_at x.held) h rows schema path room q k (At v) t x.value is in
+      part_at h rows schema x.held m x.told room less low (omega (arith, same, le)) q p w view_is (subst (λ n. IsLeft (block_at x.held) h rows n q) (sym same) left) y
 
   -- here
-  pub tells_here : (part : View) → Steps view k path (Ok (S.Here part)) → TellsHere h part tell m result n → TellsFrom h view path tell m result n
-  tells_here part steps tells = record {
+  pub tells_here : (part : View) (less : ℕ) → Steps view k path (Ok (S.Here part)) → LeavesRoom view room path less → TellsHere h less part tell m result n → TellsFrom h room view path tell m result n
+  tells_here part less steps leaves tells = record {
     answer = λ t v x.
-        let y = to_here h rows (block_at x.held) k (At v) path (reached rows k (front_in h rows (At v)) path) part (steps (front h rows (slot_of view) v) (viewed h view m t v schema x)) (leads_at t v x) in
+        let y = to_here h rows (block_at x.held) room k (At v) path (ReachIn v) part (steps (front h rows (slot_of view) v) (viewed h room view m t v schema x)) (leads_at t v x) in
         let slot : slot_of part ≡ y.leads.part.0 = y.view_is.slot ∙ ap (λ (q : InSlot). q.0) y.leads.is.front in
-        let own = tells.answer y.leads.is.tree y.leads.part.1 (part_at h rows x.held m x.told y.q y.leads.part part y.view_is y.leads.is) in
+        let own = tells.answer y.leads.is.tree y.leads.part.1 (there less leaves t v x y.q y.leads.part part y.is y.view_is y.leads.is) in
         let there : at rows (At v) path ≡ Some (slot_of part, y.leads.part.1) = y.leads.there ∙ (λ i. Some (sym slot i, y.leads.part.1)) in
         subst (λ (o : Option InSlot). TellAnswer (told h rows tell o) m result n) (sym there)
         (subst (λ (r : List Row). TellAnswer (told h r tell (Some (slot_of part, y.leads.part.1))) m result n) y.view_is.table own);
     gets = λ t v x.
-        let y = to_here h rows (block_at x.held) k (At v) path (reached rows k (front_in h rows (At v)) path) part (steps (front h rows (slot_of view) v) (viewed h view m t v schema x)) (leads_at t v x) in
+        let y = to_here h rows (block_at x.held) room k (At v) path (ReachIn v) part (steps (front h rows (slot_of view) v) (viewed h room view m t v schema x)) (leads_at t v x) in
         let slot : slot_of part ≡ y.leads.part.0 = y.view_is.slot ∙ ap (λ (q : InSlot). q.0) y.leads.is.front in
-        let own = tells.gets y.leads.is.tree y.leads.part.1 (part_at h rows x.held m x.told y.q y.leads.part part y.view_is y.leads.is) in
+        let own = tells.gets y.leads.is.tree y.leads.part.1 (there less leaves t v x y.q y.leads.part part y.is y.view_is y.leads.is) in
         let there : at rows (At v) path ≡ Some (slot_of part, y.leads.part.1) = y.leads.there ∙ (λ i. Some (sym slot i, y.leads.part.1)) in
         let same : part_nodes h (table_of part) tell (Some (slot_of part, y.leads.part.1)) ≡ part_nodes h rows tell (at rows (At v) path) =
         ap (λ (r : List Row). part_nodes h r tell (Some (slot_of part, y.leads.part.1))) y.view_is.table ∙ ap (part_nodes h rows tell) (sym there) in
@@ -234,10 +250,10 @@ module _ (h : List ℕ → List ℕ) (view : View) (schema : IsSchema (table_of 
   }
 
   -- nowhere
-  pub tells_none : (e : NoPath) → Steps view k path (Err e) → TellsNothing tell result → n ≡ m → TellsFrom h view path tell m result n
+  pub tells_none : (e : NoPath) → Steps view k path (Err e) → TellsNothing tell result → n ≡ m → TellsFrom h room view path tell m result n
   tells_none e steps nothing same = record {
     answer = λ t v x.
-        let none = to_none h rows (block_at x.held) k (At v) path (reached rows k (front_in h rows (At v)) path) e (steps (front h rows (slot_of view) v) (viewed h view m t v schema x)) (leads_at t v x) in
+        let none = to_none h rows (block_at x.held) room k (At v) path (ReachIn v) e (steps (front h rows (slot_of view) v) (viewed h room view m t v schema x)) (leads_at t v x) in
         none_answer h rows tell m n result (at rows (At v) path) none nothing;
     gets = λ t v x. let is : n.gets ≡ m.gets = ap (λ (o : Moment). o.gets) same in omega (arith, is);
     only = subst (λ (o : Moment). OnlyReads m o) (sym same) (only_refl m);
@@ -245,28 +261,29 @@ module _ (h : List ℕ → List ℕ) (view : View) (schema : IsSchema (table_of 
   }
 
   -- into a HAMT, whose key is the segment with the number j of the whole path
-  pub tells_in : (hamt : View) (j : ℕ) (all : List (List ℕ)) → path ≡ drop k all → Steps view k path (Ok (S.Enter hamt j)) → TellsIn h hamt (drop j all) tell m result n → TellsFrom h view path tell m result n
-  tells_in hamt j all is steps tells = record {
+  pub tells_in : (hamt : View) (less j : ℕ) (all : List (List ℕ)) → path ≡ drop k all → Steps view k path (Ok (S.Enter hamt j)) → LeavesRoom view room path less → TellsIn h less hamt (drop j all) tell m result n
+      → TellsFrom h room view path tell m result n
+  tells_in hamt less j all is steps leaves tells = record {
     answer = λ t v x.
-        let y = to_enter h rows (block_at x.held) k (At v) path (reached rows k (front_in h rows (At v)) path) hamt j (steps (front h rows (slot_of view) v) (viewed h view m t v schema x)) (leads_at t v x) in
+        let y = to_enter h rows (block_at x.held) room k (At v) path (ReachIn v) hamt j (steps (front h rows (slot_of view) v) (viewed h room view m t v schema x)) (leads_at t v x) in
         let slot : slot_of hamt ≡ y.leads.hamt.0 = y.view_is.slot ∙ ap (λ (q : InSlot). q.0) y.leads.is.front in
         let left : drop j all ≡ y.leads.key ∷ y.leads.behind =
         ap (λ i. drop i all) y.at_is ∙ drop_more all k y.n ∙ ap (drop y.n) (sym is ∙ y.leads.split) ∙ ap (λ i. drop i (y.leads.before ++ y.leads.key ∷ y.leads.behind)) (sym y.leads.many) ∙ drop_front y.leads.before (y.leads.key ∷ y.leads.behind) in
         let same : at (table_of hamt) (slot_of hamt, y.leads.hamt.1) (drop j all) ≡ at rows (At v) path =
         (λ i. at (y.view_is.table i) (slot i, y.leads.hamt.1) (left i)) ∙ sym y.leads.goes in
         let root = subst (λ (r : List Row). is_root r (slot_of hamt, y.leads.hamt.1) ≡ true) (sym y.view_is.table) ((λ i. is_root rows (slot i, y.leads.hamt.1)) ∙ y.leads.root) in
-        let own = tells.answer y.leads.is.tree y.leads.hamt.1 (part_at h rows x.held m x.told y.q y.leads.hamt hamt y.view_is y.leads.is) root in
+        let own = tells.answer y.leads.is.tree y.leads.hamt.1 (there less leaves t v x y.q y.leads.hamt hamt y.is y.view_is y.leads.is) root in
         subst (λ (o : Option InSlot). TellAnswer (told h rows tell o) m result n) same
         (subst (λ (r : List Row). TellAnswer (told h r tell (at (table_of hamt) (slot_of hamt, y.leads.hamt.1) (drop j all))) m result n) y.view_is.table own);
     gets = λ t v x.
-        let y = to_enter h rows (block_at x.held) k (At v) path (reached rows k (front_in h rows (At v)) path) hamt j (steps (front h rows (slot_of view) v) (viewed h view m t v schema x)) (leads_at t v x) in
+        let y = to_enter h rows (block_at x.held) room k (At v) path (ReachIn v) hamt j (steps (front h rows (slot_of view) v) (viewed h room view m t v schema x)) (leads_at t v x) in
         let slot : slot_of hamt ≡ y.leads.hamt.0 = y.view_is.slot ∙ ap (λ (q : InSlot). q.0) y.leads.is.front in
         let left : drop j all ≡ y.leads.key ∷ y.leads.behind =
         ap (λ i. drop i all) y.at_is ∙ drop_more all k y.n ∙ ap (drop y.n) (sym is ∙ y.leads.split) ∙ ap (λ i. drop i (y.leads.before ++ y.leads.key ∷ y.leads.behind)) (sym y.leads.many) ∙ drop_front y.leads.before (y.leads.key ∷ y.leads.behind) in
         let same : at (table_of hamt) (slot_of hamt, y.leads.hamt.1) (drop j all) ≡ at rows (At v) path =
         (λ i. at (y.view_is.table i) (slot i, y.leads.hamt.1) (left i)) ∙ sym y.leads.goes in
         let root = subst (λ (r : List Row). is_root r (slot_of hamt, y.leads.hamt.1) ≡ true) (sym y.view_is.table) ((λ i. is_root rows (slot i, y.leads.hamt.1)) ∙ y.leads.root) in
-        let own = tells.gets y.leads.is.tree y.leads.hamt.1 (part_at h rows x.held m x.told y.q y.leads.hamt hamt y.view_is y.leads.is) root in
+        let own = tells.gets y.leads.is.tree y.leads.hamt.1 (there less leaves t v x y.q y.leads.hamt hamt y.is y.view_is y.leads.is) root in
         let way : met (table_of hamt) (counts h (table_of hamt)) (slot_of hamt, y.leads.hamt.1) (drop j all) ≡ met rows (counts h rows) (At v) path =
         (λ i. met (y.view_is.table i) (counts h (y.view_is.table i)) (slot i, y.leads.hamt.1) (left i)) ∙ sym (y.leads.counts (counts h rows) (hamts_count h rows)) in
         let nodes : part_nodes h (table_of hamt) tell (at (table_of hamt) (slot_of hamt, y.leads.hamt.1) (drop j all)) ≡ part_nodes h rows tell (at rows (At v) path) =

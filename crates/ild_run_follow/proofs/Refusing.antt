@@ -1,20 +1,16 @@
 -- A block that is refused where a path is followed is broken, on the way or in the part.
-use Rattle.std.proofs.Common.{◌≡◌, inl, inr, ⊎_elim, ℕ, zero, suc, ◌+◌, Bool, true, false, true≢false, List, length, Some, Result, Ok, Err, refl, sym, ap, ◌∙◌, subst}
+use Rattle.std.proofs.Common.{◌≡◌, inl, inr, ⊎_elim, ℕ, ◌+◌, ◌-◌, Bool, true, false, true≢false, List, length, Some, Result, Ok, Err, refl, sym, ap, ◌∙◌, subst, arith}
 use Rattle.std.proofs.lemmas.Option.{same_Some}
 use Rattle.ild_cbor.specs.Nodes.{HasData}
 use Rattle.ild_cbor.specs.declared.node.Node.{Node}
 use Rattle.ild_cbor.specs.declared.piece.Piece.TheVariants as P
 use Rattle.ild_cbor.specs.declared.why.BlockWhy.{BlockWhy}
-use Rattle.ild_cbor.specs.declared.why.BlockWhy.TheVariants as W
 use Rattle.ild_data.specs.Data.{Data}
-use Rattle.ild_data.specs.Limits.{deepest}
 use Rattle.ild_data.specs.Spell.{id_of}
 use Rattle.ild_data.specs.Trie.{TrieSlot}
 use Rattle.ild_data.specs.declared.hamt_shape.HamtShape.{HamtShape}
 use Rattle.ild_data.specs.declared.tree.Tree.{Tree}
 use Rattle.ild_edges.specs.Store.{Moment}
-use Rattle.ild_bulk_walker.specs.OnTree.{IsWrong}
-use Rattle.ild_bulk_walker.specs.Standing.{IsWrongOnTree}
 use Rattle.ild_hamt.specs.Descending.{Descends, trail_blocks}
 use Rattle.ild_hamt.specs.Found.{FindsAtEnd, IsItemIn}
 use Rattle.ild_hamt.specs.declared.trail.Trail.{Trail}
@@ -25,12 +21,13 @@ use Rattle.ild_node_slots.specs.declared.fault.HamtFault.TheVariants as H
 use Rattle.ild_node_slots.specs.declared.view.NodeView.{NodeView}
 use Rattle.ild_open.specs.Loaded as L
 use Rattle.ild_open.specs.Loaded.{IsShown, Loads}
-use Rattle.ild_open_parts.proofs.Breaking.{broken_earlier, rose_later}
-use Rattle.ild_open_parts.specs.Broken.{HasBrokenBlock, IsWrongBelow, IsWrongEntry}
+use Rattle.ild_open_parts.proofs.Breaking.{broken_earlier}
+use Rattle.ild_open_parts.specs.Broken.{HasBrokenBlock, IsWrongBelow}
 use Rattle.ild_open_parts.specs.Reads.{OnlyReads}
 use Rattle.ild_open_parts.specs.Sites.{HasEntry, IsSite, Site}
 use Rattle.ild_open_parts.specs.declared.fault.OpenFault.{OpenFault}
 use Rattle.ild_open_parts.specs.declared.fault.OpenFault.TheVariants as O
+use Rattle.ild_path_edits.specs.Along.{taken}
 use Rattle.ild_path_found.proofs.Finding.{finds_last}
 use Rattle.ild_path_found.proofs.Rooted.{AnyPart, no_hamt, site_slots}
 use Rattle.ild_path_found.proofs.Walking.{descent_wrong, entry_there, entry_wrong}
@@ -54,12 +51,13 @@ use Rattle.ild_view.specs.declared.step.Step.TheVariants as S
 use Rattle.ild_view.specs.declared.view.View.{View}
 use Rattle.ild_view_walk.specs.Checks.{IsRefusal}
 use Rattle.ild_open.proofs.Carrying.{held_piece}
-use Rattle.ild_run_follow.proofs.Landing.{HasSiteThere, IsDataOf, IsEntered, IsReached, Lands, entered_at, fits_at, here_is, lands, leads_more, none_broken, one_data, site_there}
+use Rattle.ild_run_follow.proofs.Landing.{IsEntered, IsReached, Lands, broken_site, broken_up, entered_at, fits_at, here_is, lands, none_broken, one_data, site_there}
 use Rattle.ild_run_follow.proofs.Loading.{loaded_as}
 use Rattle.ild_run_follow.proofs.Shallow.{shown_part}
 use Rattle.ild_run_follow.specs.inside.Enters.{ChecksEntry, RefusesEntry, WalksTrie}
 use Rattle.ild_run_follow.specs.inside.Faults.{entered_as}
-use Rattle.ild_run_follow.specs.Refuses.{HasWrongAlong, IsWrongAlong, IsWrongThrough, RefusesBlock, RefusesAlong, RefusesIn, RefusesPart, in_full}
+use Rattle.ild_run_follow.specs.Refuses.{IsBrokenSite, RefusesBlock, RefusesBroken, RefusesIn}
+use Rattle.ild_run_follow.specs.inside.Rooms.{room_reached}
 use Rattle.ild_run_follow.specs.Tells.{TellsNothing}
 use Rattle.ild_run_follow.specs.declared.fault.ReadFault.{ReadFault}
 use Rattle.ild_run_follow.specs.declared.fault.ReadFault.TheVariants as F
@@ -94,64 +92,26 @@ module _ (P : List ℕ → BlockWhy → Type 0) where
   nothing_refuses T.Parts (Err e) x = path_refuses Tree e x
 
 -- where nothing is told
-pub nothing_along : (h : List ℕ → List ℕ) (rows : List Row) (at : List ℕ) (s : Slot) (t : Data) (m n : Moment) (tell : Tell) (r : Result Tree ReadFault) → TellsNothing tell r → RefusesAlong h rows at s t m r n
-nothing_along h rows at s t m n tell r x = nothing_refuses (λ id why. HasWrongAlong h rows m.blocks m.lacks n.lacks at s t id why) tell r x
+pub nothing_along : (h : List ℕ → List ℕ) (rows : List Row) (at : List ℕ) (room : ℕ) (s : Slot) (t : Data) (m n : Moment) (tell : Tell) (r : Result Tree ReadFault) → TellsNothing tell r → RefusesBroken h rows at room s t m r n
+nothing_along h rows at room s t m n tell r x = nothing_refuses (λ id why. HasBrokenBlock h rows m.blocks m.lacks n.lacks at room s t id why) tell r x
 
 pub nothing_in : (h : List ℕ → List ℕ) (rows : List Row) (z : Site) (m n : Moment) (tell : Tell) (r : Result Tree ReadFault) → TellsNothing tell r → RefusesIn h rows z m r n
-nothing_in h rows z m n tell r x =
-    nothing_refuses (λ id why. IsWrongThrough h rows m.blocks m.lacks n.lacks (λ b v. HasWrongAlong h rows m.blocks m.lacks n.lacks b z.value v id why) z id why) tell r x
+nothing_in h rows z m n tell r x = nothing_refuses (λ id why. IsBrokenSite h rows m.blocks m.lacks n.lacks z id why) tell r x
 
 -- ---- a part that is loaded
 
 -- what is told of it fails as its loading did
-pub part_fails : (h : List ℕ → List ℕ) (rows : List Row) (at : List ℕ) (s : Slot) (t : Data) (m n : Moment) (e : ReadFault) → RefusesPart {A = Val} h rows at s t m (Err e) n → RefusesPart {A = Tree} h rows at s t m (Err e) n
-part_fails h rows at s t m n e x = refuses_same (λ id why. HasBrokenBlock h rows m.blocks m.lacks n.lacks at deepest s t id why) Val Tree e x
+pub part_fails : (h : List ℕ → List ℕ) (rows : List Row) (at : List ℕ) (room : ℕ) (s : Slot) (t : Data) (m n : Moment) (e : ReadFault) → RefusesBroken {A = Val} h rows at room s t m (Err e) n → RefusesBroken {A = Tree} h rows at room s t m (Err e) n
+part_fails h rows at room s t m n e x = refuses_same (λ id why. HasBrokenBlock h rows m.blocks m.lacks n.lacks at room s t id why) Val Tree e x
 
-pub load_refuses : (h : List ℕ → List ℕ) (view : View) (at : List ℕ) (m n : Moment) (r : Result Val OpenFault) → Loads h view at m r n → (t : Data) → IsShown view t → RefusesPart h (table_of view) at (slot_of view) t m (loaded_as r) n
-load_refuses h view at m n r l t shown = by r (l.answer t shown) where
-  by : (q : Result Val OpenFault) → L.LoadAnswer h view at m t q n → RefusesPart h (table_of view) at (slot_of view) t m (loaded_as q) n
+pub load_refuses : (h : List ℕ → List ℕ) (room : ℕ) (view : View) (at : List ℕ) (m n : Moment) (r : Result Val OpenFault) → Loads h room view at m r n → (t : Data) → IsShown room view t
+    → RefusesBroken h (table_of view) at room (slot_of view) t m (loaded_as r) n
+load_refuses h room view at m n r l t shown = by r (l.answer t shown) where
+  by : (q : Result Val OpenFault) → L.LoadAnswer h room view at m t q n → RefusesBroken h (table_of view) at room (slot_of view) t m (loaded_as q) n
   by (Ok val) a = tt
   by (Err (O.Block id why)) a = a.1
   by (Err O.Store) a = tt
   by (Err O.Memory) a = tt
-
--- ---- from an earlier moment on
-
-module _ (h : List ℕ → List ℕ) (rows : List Row) (m k n : Moment) (only : OnlyReads m k) (id : List ℕ) where
-  node_earlier : (p : HamtShape) (root : List TrieSlot) (up : List ℕ) (why : BlockWhy) → IsWrong h p m.blocks root k.lacks n.lacks up id why → IsWrong h p m.blocks root m.lacks n.lacks up id why
-  node_earlier p root up W.Missing w = (w.0, rose_later m.lacks k.lacks n.lacks only.later.lacks w.1)
-  node_earlier p root up (W.Cbor fault) w = w
-  node_earlier p root up (W.Shape cause) w = w
-
-  tree_earlier : (p : HamtShape) (root : List TrieSlot) (at : List ℕ) (why : BlockWhy) → IsWrongOnTree h p k.blocks root at k.lacks n.lacks id why → IsWrongOnTree h p m.blocks root at m.lacks n.lacks id why
-  tree_earlier p root at why x =
-      let w = subst (λ o. IsWrongOnTree h p o root at k.lacks n.lacks id why) only.blocks x in
-      record { up = w.up; on = w.on; wrong = node_earlier p root w.up why w.wrong }
-
-  module _ (why : BlockWhy) where
-    through_earlier : (below more : List ℕ → Data → Type 0) → ((b : List ℕ) (d : Data) → below b d → more b d) → (z : Site) → IsWrongThrough h rows k.blocks k.lacks n.lacks below z id why → IsWrongThrough h rows m.blocks m.lacks n.lacks more z id why
-    through_earlier below more step z (inl w) = inl (tree_earlier z.shape z.slots z.block why w)
-    through_earlier below more step z (inr (inl w)) = inr (inl (subst (λ o. IsWrongEntry rows o (in_full z) id why) only.blocks w))
-    through_earlier below more step z (inr (inr w)) =
-        inr (inr (record { block = w.block; key = w.key; value = w.value; entry = subst (λ o. HasEntry o z w.block w.key w.value) only.blocks w.entry; wrong = step w.block w.value w.wrong }))
-
-    along_earlier : (deep : ℕ) (at : List ℕ) (s : Slot) (t : Data) → IsWrongAlong deep h rows k.blocks k.lacks n.lacks at s t id why → IsWrongAlong deep h rows m.blocks m.lacks n.lacks at s t id why
-    along_earlier zero at s t w = (
-      w.0,
-      leads_more rows (λ r u x. HasBrokenBlock h rows k.blocks k.lacks n.lacks at deepest u x id why) (λ r u x. HasBrokenBlock h rows m.blocks m.lacks n.lacks at deepest u x id why)
-          (λ r u x b. broken_earlier h at rows deepest (u, x) m k n id why only b) w.0 deepest s t w.1,
-    )
-    along_earlier (suc deep) at s t w = record {
-      steps = w.steps;
-      site = w.site;
-      has = w.has;
-      here = w.here;
-      wrong = through_earlier (λ block value. IsWrongAlong deep h rows k.blocks k.lacks n.lacks block w.site.value value id why) (λ block value. IsWrongAlong deep h rows m.blocks m.lacks n.lacks block w.site.value value id why)
-          (λ b d v. along_earlier deep b w.site.value d v) w.site w.wrong;
-    }
-
-    pub has_earlier : (at : List ℕ) (s : Slot) (t : Data) → HasWrongAlong h rows k.blocks k.lacks n.lacks at s t id why → HasWrongAlong h rows m.blocks m.lacks n.lacks at s t id why
-    has_earlier at s t w = record { deep = w.deep; wrong = along_earlier w.deep at s t w.wrong }
 
 -- ---- one HAMT
 
@@ -170,19 +130,26 @@ module _ (h : List ℕ → List ℕ) (p : HamtShape) (k : List ℕ) (slots : Lis
     by (Ok t) e d = subst (λ (u : Trail). Descends h p k slots m (Ok u) n) (sym (ap (trail_in trail) e)) d
     by (Err f) e d = absurd (true≢false (ap is_trail e))
 
-module _ (h : List ℕ → List ℕ) (view : View) (slot : Slot) (room : ℕ) (block k : List ℕ) (z : Site) (m n : Moment) (x : IsSiteOf (table_of view) slot room view block z) (root : NodeView)
+-- what is left to its values
+pub left_of_site : (view : View) (slot : Slot) (block : List ℕ) (z : Site) (x : IsSiteOf (table_of view) slot z.room view block z) (room less n : ℕ) → room ≡ z.room + 5 → less ≡ room - n → n ≡ taken (form_of (table_of view) (slot_of view))
+    → less ≡ z.room
+left_of_site view slot block z x room less n whole own same =
+    let five : taken (form_of (table_of view) (slot_of view)) ≡ 5 = ap taken x.site.form in
+    omega (arith, whole, own, same, five)
+
+module _ (h : List ℕ → List ℕ) (view : View) (slot : Slot) (block k : List ℕ) (z : Site) (m n : Moment) (x : IsSiteOf (table_of view) slot z.room view block z) (root : NodeView)
     (is : RootIs (shape_in (form_of (table_of view) (slot_of view))) (Some x.tree) (Some root)) where
   abbrev Rows : List Row
   Rows = table_of view
 
   has_slots : HasSlots z.shape root z.slots
-  has_slots = site_slots Rows slot room view block z x root is
+  has_slots = site_slots Rows slot z.room view block z x root is
 
   abbrev Walks : Result Trail ReadFault → Type 0
   Walks r = (p : HamtShape) (slots : List TrieSlot) → HasSlots p root slots → WalksTrie h p k slots m r n
 
   abbrev Says : List ℕ → BlockWhy → Type 0
-  Says id why = IsWrongThrough h Rows m.blocks m.lacks n.lacks (λ b value. HasWrongAlong h Rows m.blocks m.lacks n.lacks b z.value value id why) z id why
+  Says id why = IsBrokenSite h Rows m.blocks m.lacks n.lacks z id why
 
   -- on the key's way
   pub stops_in : (e : ReadFault) → Walks (Err e) → RefusesIn {A = Tree} h Rows z m (Err e) n
@@ -192,7 +159,7 @@ module _ (h : List ℕ → List ℕ) (view : View) (slot : Slot) (room : ℕ) (b
     where
       by : (r : Result Trail HamtFault) → Descends h z.shape k z.slots m r n → RefusesBlock (λ id why. Says id why) (entered_as r)
       by (Ok t) d = tt
-      by (Err (H.Block id why)) d = inl (descent_wrong h z.shape m n z.slots z.block k block id why x.block_is d)
+      by (Err (H.Block id why)) d = inl (inl (descent_wrong h z.shape m n z.slots z.block k block id why x.block_is d))
       by (Err H.Store) d = tt
       by (Err H.Memory) d = tt
       by (Err H.Exhausted) d = tt
@@ -200,7 +167,7 @@ module _ (h : List ℕ → List ℕ) (view : View) (slot : Slot) (room : ℕ) (b
       by (Err H.Size) d = tt
       by (Err (H.Clash id kept new)) d = tt
 
-  module _ (trail : Trail) (walks : Walks (Ok trail)) (item : Node) (finds : FindsAtEnd trail root (Some item)) (end : List ℕ) (ends : end ≡ end_block block (trail_blocks trail)) where
+  module _ (trail : Trail) (walks : Walks (Ok trail)) (item : Node) (finds : FindsAtEnd trail root (Some item)) (end : List ℕ) (ends : end ≡ end_block block (trail_blocks trail)) (less : ℕ) (lower : less ≡ z.room) where
     abbrev Walk : Descends h z.shape k z.slots m (Ok trail) n
     Walk = walk_ok h z.shape k z.slots m n trail (walks z.shape z.slots has_slots)
 
@@ -211,14 +178,14 @@ module _ (h : List ℕ → List ℕ) (view : View) (slot : Slot) (room : ℕ) (b
     same_end = ap id_of (ends ∙ ap (end_block block) Walk.answer.blocks)
 
     -- at an entry whose value is none of the HAMT's
-    pub stops_at : (e : ReadFault) → ((d : Data) → HasData item d → RefusesEntry Rows (form_of Rows (slot_of view)) end d (Err e)) → RefusesIn {A = Tree} h Rows z m (Err e) n
+    pub stops_at : (e : ReadFault) → ((d : Data) → HasData item d → RefusesEntry Rows less (form_of Rows (slot_of view)) end d (Err e)) → RefusesIn {A = Tree} h Rows z m (Err e) n
     stops_at F.Path says = tt
     stops_at (F.Block id why) says =
         let y = Item in
         let w = says y.value y.stands in
         let value : w.slot ≡ z.value = same_Some w.slot z.value (sym w.is ∙ ap element_of x.site.form) in
-        inr (inl (entry_wrong (in_full z) m.blocks (h k) k block x.block_is Walk.bs Walk.last Walk.reads.leads Walk.reads.held Rows item y id.0 why w.cause w.type (w.named ∙ same_end) w.told
-        (subst (λ (s : Slot). IsRefusal Rows deepest s y.value w.type w.cause) value w.refused)))
+        inl (inr (entry_wrong z m.blocks (h k) k block x.block_is Walk.bs Walk.last Walk.reads.leads Walk.reads.held Rows item y id.0 why w.cause w.type (w.named ∙ same_end) w.told
+        (subst (λ i. IsRefusal Rows i z.value y.value w.type w.cause) lower (subst (λ (s : Slot). IsRefusal Rows less s y.value w.type w.cause) value w.refused))))
     stops_at F.Store says = tt
     stops_at F.Memory says = tt
 
@@ -226,97 +193,88 @@ module _ (h : List ℕ → List ℕ) (view : View) (slot : Slot) (room : ℕ) (b
     only = record { later = Walk.reads.later; blocks = Walk.reads.blocks; given = Walk.reads.given; puts = Walk.reads.puts }
 
     -- on from the value of the entry
-    pub goes_on : (part : View) (o : Moment) (r : Result Tree ReadFault) → ((d : Data) → HasData item d → ChecksEntry Rows (form_of Rows (slot_of view)) item d (Ok part))
-        → ((f : Value) (d : Data) → IsView part f → Front (table_of part) deepest (slot_of part) f d → RefusesAlong h (table_of part) (id_of end) (slot_of part) d n r o) → RefusesIn h Rows z m r o
+    pub goes_on : (part : View) (o : Moment) (r : Result Tree ReadFault) → ((d : Data) → HasData item d → ChecksEntry Rows less (form_of Rows (slot_of view)) item d (Ok part))
+        → ((f : Value) (d : Data) → IsView part f → Front (table_of part) less (slot_of part) f d → RefusesBroken h (table_of part) (id_of end) less (slot_of part) d n r o) → RefusesIn h Rows z m r o
     goes_on part o r checks says =
         let y = Item in
         let c = checks y.value y.stands in
         let f = c.3 in
         let at : IsViewAt Rows c.0 (P.Node item) part = c.2 in
         let value : c.0 ≡ z.value = same_Some c.0 z.value (sym c.1 ∙ ap element_of x.site.form) in
-        let front : Front (table_of part) deepest (slot_of part) f.0 y.value =
-        subst (λ (s : Slot). Front (table_of part) deepest s f.0 y.value) (sym at.slot) (subst (λ (t : List Row). Front t deepest c.0 f.0 y.value) (sym at.table) (record { fits = f.1; tree = f.2 })) in
-        let seen : IsView part f.0 = record { room = deepest; tree = y.value; stands = subst (λ b. BodyStands (table_of part) b y.value) (sym (held_piece (body_of part) (P.Node item) at.piece)) y.stands; front = front } in
+        let front : Front (table_of part) less (slot_of part) f.0 y.value =
+        subst (λ (s : Slot). Front (table_of part) less s f.0 y.value) (sym at.slot) (subst (λ (t : List Row). Front t less c.0 f.0 y.value) (sym at.table) (record { fits = f.1; tree = f.2 })) in
+        let seen : IsView part f.0 = record { room = less; tree = y.value; stands = subst (λ b. BodyStands (table_of part) b y.value) (sym (held_piece (body_of part) (P.Node item) at.piece)) y.stands; front = front } in
         let own = says f.0 y.value seen front in
-        let here = subst (λ (t : List Row). RefusesAlong h t (id_of end) (slot_of part) y.value n r o) at.table own in
-        let there = subst (λ (s : Slot). RefusesAlong h Rows (id_of end) s y.value n r o) (at.slot ∙ value) here in
-        refuses_more (λ id why. HasWrongAlong h Rows n.blocks n.lacks o.lacks (id_of end) z.value y.value id why) Tree
-        (λ id why. IsWrongThrough h Rows m.blocks m.lacks o.lacks (λ b v. HasWrongAlong h Rows m.blocks m.lacks o.lacks b z.value v id why) z id why) (λ id why w. inr (inr (behind id why w))) r there
+        let here = subst (λ (t : List Row). RefusesBroken h t (id_of end) less (slot_of part) y.value n r o) at.table own in
+        let there = subst (λ i. RefusesBroken h Rows (id_of end) i z.value y.value n r o) lower (subst (λ (s : Slot). RefusesBroken h Rows (id_of end) less s y.value n r o) (at.slot ∙ value) here) in
+        refuses_more (λ id why. HasBrokenBlock h Rows n.blocks n.lacks o.lacks (id_of end) z.room z.value y.value id why) Tree
+        (λ id why. IsBrokenSite h Rows m.blocks m.lacks o.lacks z id why) (λ id why w. inr (behind id why w)) r there
       where
-        behind : (id : List ℕ) (why : BlockWhy) → HasWrongAlong h Rows n.blocks n.lacks o.lacks (id_of end) z.value Item.value id why → IsWrongBelow m.blocks z (λ b v. HasWrongAlong h Rows m.blocks m.lacks o.lacks b z.value v id why)
+        behind : (id : List ℕ) (why : BlockWhy) → HasBrokenBlock h Rows n.blocks n.lacks o.lacks (id_of end) z.room z.value Item.value id why → IsWrongBelow m.blocks z (λ b v. HasBrokenBlock h Rows m.blocks m.lacks o.lacks b z.room z.value v id why)
         behind id why w = record {
           block = id_of end;
           key = k;
           value = Item.value;
           entry = subst (λ i. HasEntry m.blocks z i k Item.value) (sym same_end) (entry_there z m.blocks (h k) k block x.block_is Walk.bs Walk.last Walk.reads.leads Walk.reads.held item Item);
-          wrong = has_earlier h Rows m n o only id why (id_of end) z.value Item.value w;
+          wrong = broken_earlier h (id_of end) Rows z.room (z.value, Item.value) m n o id why only w;
         }
 
 -- ---- in the data of a view
 
--- what is wrong at a HAMT in the data
-deep_in : (h : List ℕ → List ℕ) (rows : List Row) (m n : Moment) (at : List ℕ) (s u : Slot) (t tree : Data) (id : List ℕ) (why : BlockWhy) (x : HasSiteThere rows deepest s t u tree at)
-    → IsWrongThrough h rows m.blocks m.lacks n.lacks (λ b v. HasWrongAlong h rows m.blocks m.lacks n.lacks b x.site.value v id why) x.site id why → HasWrongAlong h rows m.blocks m.lacks n.lacks at s t id why
-deep_in h rows m n at s u t tree id why x (inl w) = record { deep = suc zero; wrong = record { steps = x.steps; site = x.site; has = x.has; here = x.here; wrong = inl w } }
-deep_in h rows m n at s u t tree id why x (inr (inl w)) = record { deep = suc zero; wrong = record { steps = x.steps; site = x.site; has = x.has; here = x.here; wrong = inr (inl w) } }
-deep_in h rows m n at s u t tree id why x (inr (inr w)) = record {
-  deep = suc w.wrong.deep;
-  wrong = record { steps = x.steps; site = x.site; has = x.has; here = x.here; wrong = inr (inr (record { block = w.block; key = w.key; value = w.value; entry = w.entry; wrong = w.wrong.wrong })) };
-}
+module _ (law : PartsStandInData) (h : List ℕ → List ℕ) (rows : List Row) (schema : IsSchema rows) (at : List ℕ) (room k : ℕ) (p : InSlot) (t : Data) (path : List (List ℕ)) (front : Front rows room p.0 p.1 t) (m n : Moment) where
+  abbrev Left : ℕ
+  Left = room_reached rows room p path
 
-module _ (law : PartsStandInData) (h : List ℕ → List ℕ) (rows : List Row) (schema : IsSchema rows) (at : List ℕ) (k : ℕ) (p : InSlot) (t : Data) (path : List (List ℕ)) (front : Front rows deepest p.0 p.1 t) (m n : Moment) where
-  abbrev Broken : Slot → Data → List ℕ → BlockWhy → Type 0
-  Broken s d id why = HasBrokenBlock h rows m.blocks m.lacks n.lacks at deepest s d id why
+  abbrev Broken : ℕ → Slot → Data → List ℕ → BlockWhy → Type 0
+  Broken less s d id why = HasBrokenBlock h rows m.blocks m.lacks n.lacks at less s d id why
 
-  abbrev Wrong : List ℕ → BlockWhy → Type 0
-  Wrong id why = HasWrongAlong h rows m.blocks m.lacks n.lacks at p.0 t id why
-
-  module _ (w : View) (y : IsReached rows (reached rows k p path) w) (id : List ℕ) (why : BlockWhy) (b : Broken y.part.0 y.view.view.tree id why) where
-    in_part : Lands rows deepest p t y.part → Wrong id why
-    in_part l = record {
-      deep = zero;
-      wrong = (
-        l.steps,
-        leads_more rows (λ room s d. IsDataOf rows y.part room s d) (λ room s d. Broken s d id why)
-            (λ room s d own. subst (λ (u : Slot). Broken u d id why) (sym own.0) (subst (λ e. Broken y.part.0 e id why) (one_data rows y.part w y.view room s d own) b)) l.steps deepest p.0 t l.leads,
-      );
-    }
+  module _ (w : View) (y : IsReached rows (reached rows k p path) w) (id : List ℕ) (why : BlockWhy) (b : Broken Left y.part.0 y.view.view.tree id why) where
+    in_part : Lands rows room p t Left y.part → Broken room p.0 t id why
+    in_part l =
+        broken_up h rows m.blocks m.lacks n.lacks at id why room Left p y.part t l (subst (λ d. Broken Left y.part.0 d id why) (one_data rows y.part w y.view Left l.tree l.front) b)
 
     in_any : AnyPart y.part → ⊥
     in_any a =
-        none_broken rows schema h m.blocks m.lacks n.lacks at deepest y.view.view.tree id why (subst (λ (u : Slot). Broken u y.view.view.tree id why) (sym (ap (λ (z : InSlot). z.0) a.1)) b)
+        none_broken rows schema h m.blocks m.lacks n.lacks at Left y.view.view.tree id why (subst (λ (u : Slot). Broken Left u y.view.view.tree id why) (sym (ap (λ (z : InSlot). z.0) a.1)) b)
 
-    wrong_part : Wrong id why
-    wrong_part = ⊎_elim (λ l. in_part l) (λ a. absurd (in_any a)) (lands rows law schema k deepest p t path y.part front y.is)
+    wrong_part : Broken room p.0 t id why
+    wrong_part = ⊎_elim (λ l. in_part l) (λ a. absurd (in_any a)) (lands rows law schema k room p t path y.part front y.is)
 
   module _ (r : Result Tree ReadFault) where
-    here_in : (w : View) (y : IsReached rows (reached rows k p path) w) → ((d : Data) → IsShown w d → RefusesPart h (table_of w) at (slot_of w) d m r n) → RefusesAlong h rows at p.0 t m r n
+    -- what the part's view is told, where so much room is left
+    abbrev PartSays : View → ℕ → Type 0
+    PartSays w less = (d : Data) → IsShown less w d → RefusesBroken h (table_of w) at less (slot_of w) d m r n
+
+    here_in : (w : View) (y : IsReached rows (reached rows k p path) w) → PartSays w Left → RefusesBroken h rows at room p.0 t m r n
     here_in w y says =
         let x = y.view in
-        let own = says x.view.tree (shown_part rows y.part w x (fits_at rows law schema k deepest p path y.part front.fits y.is)) in
-        let here = subst (λ (s : Slot). RefusesPart h rows at s x.view.tree m r n) x.slot (subst (λ (rs : List Row). RefusesPart h rs at (slot_of w) x.view.tree m r n) x.table own) in
-        refuses_more (λ id why. Broken y.part.0 x.view.tree id why) Tree (λ id why. Wrong id why) (λ id why b. wrong_part w y id why b) r here
+        let own = says x.view.tree (shown_part rows Left y.part w x (fits_at rows law schema k room p path y.part front.fits y.is)) in
+        let here = subst (λ (s : Slot). RefusesBroken h rows at Left s x.view.tree m r n) x.slot (subst (λ (rs : List Row). RefusesBroken h rs at Left (slot_of w) x.view.tree m r n) x.table own) in
+        refuses_more (λ id why. Broken Left y.part.0 x.view.tree id why) Tree (λ id why. Broken room p.0 t id why) (λ id why b. wrong_part w y id why b) r here
 
     -- the part is there
-    pub refuses_here : (w : View) → Reaches rows (reached rows k p path) (Ok (S.Here w)) → ((d : Data) → IsShown w d → RefusesPart h (table_of w) at (slot_of w) d m r n) → RefusesAlong h rows at p.0 t m r n
-    refuses_here w reaches says = here_in w (here_is rows (reached rows k p path) w reaches) says
+    pub refuses_here : (w : View) (less : ℕ) → less ≡ Left → Reaches rows (reached rows k p path) (Ok (S.Here w)) → PartSays w less → RefusesBroken h rows at room p.0 t m r n
+    refuses_here w less same reaches says = here_in w (here_is rows (reached rows k p path) w reaches) (subst (PartSays w) same says)
 
-    entered_in : (w : View) (block : List ℕ) → at ≡ id_of block → (y : IsEntered rows (reached rows k p path) w)
-        → ((slot : Slot) (room : ℕ) (z : Site) → IsSiteOf (table_of w) slot room w block z → RefusesIn h (table_of w) z m r n) → Lands rows deepest p t y.reached.part → RefusesAlong h rows at p.0 t m r n
+    -- what the root's view is told
+    abbrev RootSays : View → List ℕ → ℕ → Type 0
+    RootSays w block less = (slot : Slot) (z : Site) → IsSiteOf (table_of w) slot z.room w block z → less ≡ z.room + 5 → RefusesIn h (table_of w) z m r n
+
+    entered_in : (w : View) (block : List ℕ) → at ≡ id_of block → (y : IsEntered rows (reached rows k p path) w) → RootSays w block Left → Lands rows room p t Left y.reached.part → RefusesBroken h rows at room p.0 t m r n
     entered_in w block named y says l =
         let x = y.reached.view in
         let q = y.reached.part in
-        let s = site_there rows q y.tree at y.is l.steps deepest p.0 t l.leads in
+        let s = site_there rows q y.tree at y.is room Left p t l in
         let same : IsSite rows (s.site.room + 5) q.0 y.tree s.site = subst (λ (i : ℕ). IsSite rows i q.0 y.tree s.site) s.is.left s.is in
         let there : IsSite (table_of w) (s.site.room + 5) (slot_of w) y.tree s.site =
         subst (λ (u : Slot). IsSite (table_of w) (s.site.room + 5) u y.tree s.site) (sym x.slot) (subst (λ (rs : List Row). IsSite rs (s.site.room + 5) q.0 y.tree s.site) (sym x.table) same) in
-        let own = says s.site.value s.site.room s.site (record { table = refl; tree = y.tree; stands = subst (IsView w) y.is x.view; site = there; value_is = refl; block_is = s.here ∙ named }) in
-        refuses_more (λ id why. IsWrongThrough h rows m.blocks m.lacks n.lacks (λ b v. HasWrongAlong h rows m.blocks m.lacks n.lacks b s.site.value v id why) s.site id why) Tree
-        (λ id why. Wrong id why) (λ id why b. deep_in h rows m n at p.0 q.0 t y.tree id why s b) r (subst (λ (rs : List Row). RefusesIn h rs s.site m r n) x.table own)
+        let own = says s.site.value s.site (record { table = refl; tree = y.tree; stands = subst (IsView w) y.is x.view; site = there; value_is = refl; block_is = s.here ∙ named }) s.is.left in
+        refuses_more (λ id why. IsBrokenSite h rows m.blocks m.lacks n.lacks s.site id why) Tree (λ id why. Broken room p.0 t id why)
+        (λ id why b. broken_site h rows m.blocks m.lacks n.lacks at id why room p.0 t Left q.0 y.tree s b) r (subst (λ (rs : List Row). RefusesIn h rs s.site m r n) x.table own)
 
     -- a HAMT has to be entered
-    pub refuses_entered : (w : View) (j : ℕ) (block : List ℕ) → at ≡ id_of block → Reaches rows (reached rows k p path) (Ok (S.Enter w j))
-        → ((slot : Slot) (room : ℕ) (z : Site) → IsSiteOf (table_of w) slot room w block z → RefusesIn h (table_of w) z m r n) → RefusesAlong h rows at p.0 t m r n
-    refuses_entered w j block named reaches says =
+    pub refuses_entered : (w : View) (j less : ℕ) (block : List ℕ) → at ≡ id_of block → less ≡ Left → Reaches rows (reached rows k p path) (Ok (S.Enter w j)) → RootSays w block less → RefusesBroken h rows at room p.0 t m r n
+    refuses_entered w j less block named same reaches says =
         let y = entered_at rows k p path w j reaches in
-        ⊎_elim (λ l. entered_in w block named y says l) (λ a. absurd (no_hamt a.0 y.tree (ap (λ (z : InSlot). z.1) a.1 ∙ y.is))) (lands rows law schema k deepest p t path y.reached.part front y.reached.is)
+        ⊎_elim (λ l. entered_in w block named y (subst (RootSays w block) same says) l) (λ a. absurd (no_hamt a.0 y.tree (ap (λ (z : InSlot). z.1) a.1 ∙ y.is)))
+        (lands rows law schema k room p t path y.reached.part front y.reached.is)

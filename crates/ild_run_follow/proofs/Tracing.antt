@@ -62,20 +62,20 @@ module _ (h : List ℕ → List ℕ) (p : HamtShape) (k : List ℕ) (slots : Lis
     failed = enter_failed r d.bs d.last d.answer;
   }
 
-module _ (rows : List Row) (schema : IsSchema rows) (never : RefusedHaveNoFront) (d : Option TypeDef) (node : Node) (slot : Slot) (is : IsValueSlot rows d (Some slot)) (t : Data) where
-  pub checks_view : (view : View) → Views rows 96 slot node t (Ok view) → ChecksEntry rows d node t (Ok view)
+module _ (rows : List Row) (room : ℕ) (schema : IsSchema rows) (never : RefusedHaveNoFront) (d : Option TypeDef) (node : Node) (slot : Slot) (is : IsValueSlot rows d (Some slot)) (t : Data) where
+  pub checks_view : (view : View) → Views rows room slot node t (Ok view) → ChecksEntry rows room d node t (Ok view)
   checks_view view v = (slot, is.0, v.0, (v.1.0, v.1.1.fits, v.1.1.tree))
 
-  pub checks_refused : (id : BlockId) (w : BlockWhy) (ty : TypeNo) (why : Why) → IsRefusal rows 96 slot t ty why → ChecksEntry rows d node t (Err (F.Block id w))
+  pub checks_refused : (id : BlockId) (w : BlockWhy) (ty : TypeNo) (why : Why) → IsRefusal rows room slot t ty why → ChecksEntry rows room d node t (Err (F.Block id w))
   checks_refused id w ty why v = λ s e shows.
       let same : s ≡ slot = same_Some s slot (sym e ∙ is.0) in
-      let f : RepresentsSome (Fits rows 96) rows slot t = subst (λ (u : Slot). RepresentsSome (Fits rows 96) rows u t) same shows in
-      never rows schema 96 slot (safe_is rows slot is.2) t v.refusal v.refused f.0 (record { fits = f.1; tree = f.2 })
+      let f : RepresentsSome (Fits rows room) rows slot t = subst (λ (u : Slot). RepresentsSome (Fits rows room) rows u t) same shows in
+      never rows schema room slot (safe_is rows slot is.2) t v.refusal v.refused f.0 (record { fits = f.1; tree = f.2 })
 
 -- what is refused of an entry
-pub refuses_entry : (rows : List Row) (d : Option TypeDef) (slot : Slot) (is : IsValueSlot rows d (Some slot)) (block : List ℕ) (t : Data) (id : BlockId) (why : Why) (ty : TypeNo) → id.0 ≡ id_of block → IsRefusal rows 96 slot t ty why
-    → RefusesEntry rows d block t (Err (F.Block id (B.Shape why)))
-refuses_entry rows d slot is block t id why ty named refused = record { named = named; slot = slot; is = is.0; cause = why; told = refl; type = ty; refused = refused }
+pub refuses_entry : (rows : List Row) (room : ℕ) (d : Option TypeDef) (slot : Slot) (is : IsValueSlot rows d (Some slot)) (block : List ℕ) (t : Data) (id : BlockId) (why : Why) (ty : TypeNo) → id.0 ≡ id_of block → IsRefusal rows room slot t ty why
+    → RefusesEntry rows room d block t (Err (F.Block id (B.Shape why)))
+refuses_entry rows room d slot is block t id why ty named refused = record { named = named; slot = slot; is = is.0; cause = why; told = refl; type = ty; refused = refused }
 
 -- the type of a HAMT says what its values are
 pub hamt_valued : (rows : List Row) (v : View) → table_of v ≡ rows → (t : Data) → IsView v (V.hamt t) → value_in (form_of rows (slot_of v)) ≡ None → ⊥

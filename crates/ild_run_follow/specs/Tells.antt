@@ -3,6 +3,7 @@ use Rattle.std.specs.Prelude.{◌≡◌, ℕ, ◌+◌, ◌≤◌, true, false, c
 use Rattle.std.specs.Option.{option_map_or}
 use Rattle.ild_data.specs.Data as D
 use Rattle.ild_data.specs.Data.{Data}
+use Rattle.ild_data.specs.Limits.{deepest}
 use Rattle.ild_data.specs.Seen.{data_of}
 use Rattle.ild_data.specs.declared.tree.Tree.{Tree}
 use Rattle.ild_edges.specs.Count.{Rose}
@@ -57,28 +58,32 @@ counts h rows p k = met_in h rows (form_of rows p.0) p.1 k
 abbrev pub part_nodes : (List ℕ → List ℕ) → List Row → Tell → Option InSlot → ℕ
 part_nodes h rows tell o = cond (is_loaded tell) (option_map_or (λ q. length (nodes h rows q.0 q.1)) o 0) 0
 
--- a value that is held at a view, where the store tells
-pub record ViewIsHeld (h : List ℕ → List ℕ) (view : View) (m : Moment) (t : Data) (v : Value) : Type 0 where
+-- a value that is held at a view and nests so many levels at most, where the store tells
+pub record ViewHolds (h : List ℕ → List ℕ) (room : ℕ) (view : View) (m : Moment) (t : Data) (v : Value) : Type 0 where
   pub held : List (List ℕ)
   pub told : m.blocks ≡ Some held
   pub stands : BodyStands (table_of view) (body_of view) t
-  pub value : IsValueAt h held view t v
+  pub value : IsValueAt h held room view t v
 
-pub record TellsFrom (h : List ℕ → List ℕ) (view : View) (path : List (List ℕ)) (tell : Tell) (m : Moment) (result : Result Tree ReadFault) (n : Moment) : Type 0 where
-  pub answer : (t : Data) (v : Value) → ViewIsHeld h view m t v → TellAnswer (told h (table_of view) tell (at (table_of view) (slot_of view, v) path)) m result n
-  pub gets : (t : Data) (v : Value) → ViewIsHeld h view m t v
+-- one that nests no deeper than any may
+abbrev pub ViewIsHeld : (List ℕ → List ℕ) → View → Moment → Data → Value → Type 0
+ViewIsHeld h view m t v = ViewHolds h deepest view m t v
+
+pub record TellsFrom (h : List ℕ → List ℕ) (room : ℕ) (view : View) (path : List (List ℕ)) (tell : Tell) (m : Moment) (result : Result Tree ReadFault) (n : Moment) : Type 0 where
+  pub answer : (t : Data) (v : Value) → ViewHolds h room view m t v → TellAnswer (told h (table_of view) tell (at (table_of view) (slot_of view, v) path)) m result n
+  pub gets : (t : Data) (v : Value) → ViewHolds h room view m t v
       → n.gets ≤ m.gets + (met (table_of view) (counts h (table_of view)) (slot_of view, v) path + part_nodes h (table_of view) tell (at (table_of view) (slot_of view, v) path))
   pub only : OnlyReads m n
   pub failed : FailsOnly m result n
 
-abbrev pub TellsHere : (List ℕ → List ℕ) → View → Tell → Moment → Result Tree ReadFault → Moment → Type 0
-TellsHere h view tell m result n = TellsFrom h view [] tell m result n
+abbrev pub TellsHere : (List ℕ → List ℕ) → ℕ → View → Tell → Moment → Result Tree ReadFault → Moment → Type 0
+TellsHere h room view tell m result n = TellsFrom h room view [] tell m result n
 
 -- of the root of a HAMT
-pub record TellsIn (h : List ℕ → List ℕ) (view : View) (path : List (List ℕ)) (tell : Tell) (m : Moment) (result : Result Tree ReadFault) (n : Moment) : Type 0 where
-  pub answer : (t : Data) (v : Value) → ViewIsHeld h view m t v → is_root (table_of view) (slot_of view, v) ≡ true
+pub record TellsIn (h : List ℕ → List ℕ) (room : ℕ) (view : View) (path : List (List ℕ)) (tell : Tell) (m : Moment) (result : Result Tree ReadFault) (n : Moment) : Type 0 where
+  pub answer : (t : Data) (v : Value) → ViewHolds h room view m t v → is_root (table_of view) (slot_of view, v) ≡ true
       → TellAnswer (told h (table_of view) tell (at (table_of view) (slot_of view, v) path)) m result n
-  pub gets : (t : Data) (v : Value) → ViewIsHeld h view m t v → is_root (table_of view) (slot_of view, v) ≡ true
+  pub gets : (t : Data) (v : Value) → ViewHolds h room view m t v → is_root (table_of view) (slot_of view, v) ≡ true
       → n.gets ≤ m.gets + (met (table_of view) (counts h (table_of view)) (slot_of view, v) path + part_nodes h (table_of view) tell (at (table_of view) (slot_of view, v) path))
   pub only : OnlyReads m n
   pub failed : FailsOnly m result n
@@ -92,9 +97,9 @@ LoadAnswer v m (Err (F.Block id why)) n = ⊥
 LoadAnswer v m (Err F.Store) n = Rose m.faults n.faults
 LoadAnswer v m (Err F.Memory) n = Unit {0}
 
-pub record LoadsPart (h : List ℕ → List ℕ) (view : View) (m : Moment) (result : Result Val ReadFault) (n : Moment) : Type 0 where
-  pub answer : (t : Data) (v : Value) → ViewIsHeld h view m t v → LoadAnswer v m result n
-  pub gets : (t : Data) (v : Value) → ViewIsHeld h view m t v → n.gets ≤ m.gets + length (nodes h (table_of view) (slot_of view) v)
+pub record LoadsPart (h : List ℕ → List ℕ) (room : ℕ) (view : View) (m : Moment) (result : Result Val ReadFault) (n : Moment) : Type 0 where
+  pub answer : (t : Data) (v : Value) → ViewHolds h room view m t v → LoadAnswer v m result n
+  pub gets : (t : Data) (v : Value) → ViewHolds h room view m t v → n.gets ≤ m.gets + length (nodes h (table_of view) (slot_of view) v)
   pub only : OnlyReads m n
   pub failed : FailsOnly m result n
 

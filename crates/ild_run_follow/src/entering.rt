@@ -23,9 +23,6 @@ use ild_typed::refused_have_no_front;
 use ild_view::{View, ViewErr};
 use std::alloc::Global;
 
-/// How many levels a value may nest.
-const ROOM: u32 = 96;
-
 /// The nodes on a key's way beneath the root of a HAMT.
 pub(crate) fn trail_of<K: Store, H: KeyHash>(
     alloc: Global,
@@ -43,17 +40,19 @@ pub(crate) fn trail_of<K: Store, H: KeyHash>(
     }
 }
 
-/// The view of the value of an entry in a HAMT, which is checked against the slot of its values. Where it is none of them, the block in
-/// which it stands is refused: the one that is handed in.
+/// The view of the value of an entry in a HAMT, which may nest so many levels, and is checked against the slot of the HAMT's values. Where
+/// it is none of them, the block in which it stands is refused: the one that is handed in.
 pub(crate) fn entry_view<'b>(
     alloc: Global,
     hamt: &View<'b>,
     node: Node<'b>,
     at: BlockAt<'_>,
+    room: u32,
 ) -> Result<View<'b>, ReadFault>
     requires { ∥ ((t : Data) × IsView hamt.now (root_of t)) ∥₁ }
-    ensures checks { (d : Data) → HasData node.entry d → ChecksEntry (table_of hamt.now) (form_of (table_of hamt.now) (slot_of hamt.now)) node.entry d result }
-    ensures refused { (d : Data) → HasData node.entry d → RefusesEntry (table_of hamt.now) (form_of (table_of hamt.now) (slot_of hamt.now)) (bytes_in at.entry) d result }
+    ensures checks { (d : Data) → HasData node.entry d → ChecksEntry (table_of hamt.now) room (form_of (table_of hamt.now) (slot_of hamt.now)) node.entry d result }
+    ensures refused { (d : Data) → HasData node.entry d
+        → RefusesEntry (table_of hamt.now) room (form_of (table_of hamt.now) (slot_of hamt.now)) (bytes_in at.entry) d result }
 {
     let acc = hamt.schema();
     // They do no work: their clauses say what acceptance says of the table, and that what is refused has no front.
@@ -62,7 +61,7 @@ pub(crate) fn entry_view<'b>(
     let Some(slot) = value_slot(acc, hamt) else {
         unreachable!();
     };
-    match View::check(alloc, acc, slot, node, ROOM) {
+    match View::check(alloc, acc, slot, node, room) {
         Ok(view) => Ok(view),
         Err(ViewErr::Shape { ty: _, why, at: _ }) => Err(ReadFault::Block {
             id: at.id(),

@@ -1,11 +1,11 @@
 //! What is told of the part at a view.
-ghost use Rattle.std.specs.Prelude.{◌≡◌, ◌<◌, IfOk, length, true};
+ghost use Rattle.std.specs.Prelude.{◌≡◌, ◌<◌, ◌≤◌, IfOk, length, true};
 ghost use Rattle.ild_data.specs.Data.{Data};
 ghost use Rattle.ild_data.specs.Seen.{data_of};
 ghost use Rattle.ild_data.specs.Spell.{id_of};
 ghost use Rattle.ild_open.specs.Blocks.{bytes_in};
 ghost use Rattle.ild_open.specs.Loaded.{IsShallow, IsShown};
-ghost use Rattle.ild_run_follow.specs.Refuses.{RefusesPart};
+ghost use Rattle.ild_run_follow.specs.Refuses.{RefusesBroken};
 ghost use Rattle.ild_run_follow.specs.Tells.{LoadsPart, TellsHere, ToldBy};
 ghost use Rattle.ild_run_follow.specs.Told.{is_loaded};
 ghost use Rattle.ild_view.specs.View.{slot_of, table_of};
@@ -21,20 +21,23 @@ use ild_value_shown::shown;
 use ild_view::View;
 use std::alloc::{AllocError, Global};
 
-// The value at a view, whose data stand in this block.
+// The value at a view, whose data stand in this block, and which may nest so many levels.
 fn loaded<K: Store, H: KeyHash>(
     alloc: Global,
     view: &View<'_>,
     at: BlockAt<'_>,
+    room: u32,
     keys: &H,
     store: &mut K,
 ) -> Result<Val, ReadFault>
-    requires shallow { ∥ IsShallow view.now ∥₁ }
-    ensures loads { LoadsPart H.hash_of view.now (K.moment store.old) result (K.moment store.new) }
-    ensures refused { (t : Data) → IsShown view.now t → RefusesPart H.hash_of (table_of view.now) (id_of (bytes_in at.entry)) (slot_of view.now) t (K.moment store.old) result (K.moment store.new) }
+    requires low { room ≤ 96 }
+    requires shallow { ∥ IsShallow room view.now ∥₁ }
+    ensures loads { LoadsPart H.hash_of room view.now (K.moment store.old) result (K.moment store.new) }
+    ensures refused { (t : Data) → IsShown room view.now t
+        → RefusesBroken H.hash_of (table_of view.now) (id_of (bytes_in at.entry)) room (slot_of view.now) t (K.moment store.old) result (K.moment store.new) }
 {
     view.schema().recall();
-    match load(alloc, view, at, keys, store) {
+    match load(alloc, view, at, room, keys, store) {
         Ok(val) => Ok(val),
         Err(fault) => Err(of_open(&fault)),
     }
@@ -68,41 +71,47 @@ fn tell_loaded<K: Store, H: KeyHash>(
     alloc: Global,
     view: &View<'_>,
     at: BlockAt<'_>,
+    room: u32,
     tell: Tell,
     keys: &H,
     store: &mut K,
 ) -> Result<Tree, ReadFault>
     requires loads { is_loaded tell ≡ true }
-    requires shallow { ∥ IsShallow view.now ∥₁ }
-    ensures tells { TellsHere H.hash_of view.now tell (K.moment store.old) result (K.moment store.new) }
-    ensures refused { (t : Data) → IsShown view.now t → RefusesPart H.hash_of (table_of view.now) (id_of (bytes_in at.entry)) (slot_of view.now) t (K.moment store.old) result (K.moment store.new) }
+    requires low { room ≤ 96 }
+    requires shallow { ∥ IsShallow room view.now ∥₁ }
+    ensures tells { TellsHere H.hash_of room view.now tell (K.moment store.old) result (K.moment store.new) }
+    ensures refused { (t : Data) → IsShown room view.now t
+        → RefusesBroken H.hash_of (table_of view.now) (id_of (bytes_in at.entry)) room (slot_of view.now) t (K.moment store.old) result (K.moment store.new) }
 {
-    let val = loaded(alloc, view, at, keys, store)?;
+    let val = loaded(alloc, view, at, room, keys, store)?;
     match told_by(alloc, view.schema(), view.slot(), &val, tell)? {
         Some(tree) => Ok(tree),
         None => Err(ReadFault::Path),
     }
 }
 
-/// What is told of the part at a view, whose data stand in this block.
+/// What is told of the part at a view, whose data stand in this block, and which may nest so many levels.
 pub(crate) fn tell_here<K: Store, H: KeyHash>(
     alloc: Global,
     view: &View<'_>,
     at: BlockAt<'_>,
+    room: u32,
     tell: Tell,
     keys: &H,
     store: &mut K,
 ) -> Result<Tree, ReadFault>
-    requires shallow { ∥ IsShallow view.now ∥₁ }
-    ensures tells { TellsHere H.hash_of view.now tell (K.moment store.old) result (K.moment store.new) }
-    ensures refused { (t : Data) → IsShown view.now t → RefusesPart H.hash_of (table_of view.now) (id_of (bytes_in at.entry)) (slot_of view.now) t (K.moment store.old) result (K.moment store.new) }
+    requires low { room ≤ 96 }
+    requires shallow { ∥ IsShallow room view.now ∥₁ }
+    ensures tells { TellsHere H.hash_of room view.now tell (K.moment store.old) result (K.moment store.new) }
+    ensures refused { (t : Data) → IsShown room view.now t
+        → RefusesBroken H.hash_of (table_of view.now) (id_of (bytes_in at.entry)) room (slot_of view.now) t (K.moment store.old) result (K.moment store.new) }
 {
     view.schema().recall();
     match tell {
         Tell::Presence => Ok(Tree::Bool(true)),
         Tell::Representation => Ok(view.rep(alloc)?),
-        Tell::Shown => tell_loaded(alloc, view, at, Tell::Shown, keys, store),
-        Tell::Count => tell_loaded(alloc, view, at, Tell::Count, keys, store),
-        Tell::Parts => tell_loaded(alloc, view, at, Tell::Parts, keys, store),
+        Tell::Shown => tell_loaded(alloc, view, at, room, Tell::Shown, keys, store),
+        Tell::Count => tell_loaded(alloc, view, at, room, Tell::Count, keys, store),
+        Tell::Parts => tell_loaded(alloc, view, at, room, Tell::Parts, keys, store),
     }
 }

@@ -1,5 +1,5 @@
 -- The HAMT of no entries: it has a trie, and the block of its root map is short.
-use Rattle.std.proofs.Common.{◌≡◌, ◌≤◌, ◌+◌, ◌*◌, ◌-◌, ◌/◌, ◌^◌, ℕ, suc, List, [], ◌∷◌, ◌++◌, length, length-append, map, take, drop, flat_map, Option, Some, None, option_map, refl, ap, ◌∙◌, arith, pos, codes}
+use Rattle.std.proofs.Common.{◌≡◌, ◌≤◌, ◌+◌, ◌*◌, ◌-◌, ◌/◌, ◌^◌, ℕ, suc, List, [], ◌∷◌, ◌++◌, length, length-append, map, take, drop, flat_map, Option, Some, option_map, refl, ap, ◌∙◌, arith, pos, codes}
 use Rattle.std.proofs.Math.Pow.{pow_mono}
 use Rattle.std.proofs.lemmas.List.FromFn.{length-map-range_with_len}
 use Rattle.std.proofs.lemmas.Nat.{le-div}
@@ -17,6 +17,7 @@ use Rattle.ild_typed.specs.Hamt.{root_map}
 
 -- ---- its trie
 
+-- an index at which nothing stands
 abbrev unused : ℕ → TrieSlot
 unused i = Trie.empty
 
@@ -65,6 +66,16 @@ item_length d ds = length-append (spell d) (spell_items ds)
 
 member_length : (k : List ℕ) (d : Data) (ms : T.Members) → length (spell_members (T.member k d ms)) ≤ 9 + length k + length (spell d) + length (spell_members ms)
 member_length k d ms = omega (arith, text_length k, length-append (spell_text k ++ spell d) (spell_members ms), length-append (spell_text k) (spell d))
+
+-- the other forms of no entries
+pub empty_list_short : length (spell (T.list T.no_items)) ≤ longest_block
+empty_list_short = omega (arith, list_length T.no_items)
+
+pub empty_map_short : length (spell (T.map T.no_members)) ≤ longest_block
+empty_map_short = omega (arith, map_length T.no_members)
+
+pub empty_text_short : length (spell (T.text [])) ≤ longest_block
+empty_text_short = omega (arith, text_length [])
 
 -- ---- its block
 

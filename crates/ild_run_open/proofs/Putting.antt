@@ -35,22 +35,22 @@ use Rattle.ild_run_open.proofs.Empties.{empty_block, fits, is_one, nodes_gone, n
 
 module _ (h : List ℕ → List ℕ) (rows : List Row) (ty : TypeNo) (v : Value) (empty : IsEmpty rows ty v) (m n : Moment) where
   its_block : (b : List ℕ) → IsBuilt h rows (plainly ty) v m b n → IsEmptyBlock h rows ty v b
-  its_block b built = record {
-    tree = built.has.tree;
+  its_block b x = record {
+    tree = x.has.tree;
     storable = record {
       fits = fits rows ty v empty;
-      tree = built.has.represented;
-      sized = subst (λ (bs : List (List ℕ)). AllByRecursion (λ b. length b ≤ longest_block) bs) (sym (one_block h rows ty v built.has.tree empty)) (built.has.sized.0, tt);
+      tree = x.has.represented;
+      sized = subst (λ (bs : List (List ℕ)). AllByRecursion (λ b. length b ≤ longest_block) bs) (sym (one_block h rows ty v x.has.tree empty)) (x.has.sized.0, tt);
     };
-    spelled = built.spelled;
+    spelled = x.spelled;
   }
 
   told : (fault : BuildFault) (f : StartFault) → TellsBuilt fault f → BuildAnswer h rows (plainly ty) v m (Err fault) n → BuildEmptyAnswer h rows ty v m (Err f) n
-  told B.Store f tells built = subst (λ (x : StartFault). BuildEmptyAnswer h rows ty v m (Err x) n) (sym tells) built.0
-  told B.Memory f tells built = subst (λ (x : StartFault). BuildEmptyAnswer h rows ty v m (Err x) n) (sym tells) tt
-  told B.Exhausted f tells built = absurd tells
-  told B.Size f tells built = absurd tells
-  told (B.Clash id kept new) f tells built = absurd tells
+  told B.Store f tells x = subst (λ (y : StartFault). BuildEmptyAnswer h rows ty v m (Err y) n) (sym tells) x.0
+  told B.Memory f tells x = subst (λ (y : StartFault). BuildEmptyAnswer h rows ty v m (Err y) n) (sym tells) tt
+  told B.Exhausted f tells x = absurd tells
+  told B.Size f tells x = absurd tells
+  told (B.Clash id kept new) f tells x = absurd tells
 
   leaves : (result : Result (List ℕ) BuildFault) (answer : Result (List ℕ) StartFault) → Builds h rows (plainly ty) v m result n → BuildEmptyAnswer h rows ty v m answer n → BuildsEmpty h rows ty v m answer n
   leaves result answer x is =
@@ -58,11 +58,11 @@ module _ (h : List ℕ → List ℕ) (rows : List Row) (ty : TypeNo) (v : Value)
       let some : m.puts ≤ n.puts = x.steps.later.puts in
       record { answer = is; later = x.steps.later; adds = nodes_gone h rows ty v (AddsOnly m n) empty x.steps.adds; gets = x.steps.gets; puts = omega (arith, few, some) }
 
-  pub built : (b : List ℕ) → Builds h rows (plainly ty) v m (Ok b) n → BuildsEmpty h rows ty v m (Ok b) n
-  built b x = leaves (Ok b) (Ok b) x (its_block b x.answer)
+  pub builds : (b : List ℕ) → Builds h rows (plainly ty) v m (Ok b) n → BuildsEmpty h rows ty v m (Ok b) n
+  builds b x = leaves (Ok b) (Ok b) x (its_block b x.answer)
 
-  pub stopped : (fault : BuildFault) (f : StartFault) → TellsBuilt fault f → Builds h rows (plainly ty) v m (Err fault) n → BuildsEmpty h rows ty v m (Err f) n
-  stopped fault f tells x = leaves (Err fault) (Err f) x (told fault f tells x.answer)
+  pub stops : (fault : BuildFault) (f : StartFault) → TellsBuilt fault f → Builds h rows (plainly ty) v m (Err fault) n → BuildsEmpty h rows ty v m (Err f) n
+  stops fault f tells x = leaves (Err fault) (Err f) x (told fault f tells x.answer)
 
   unbuilt : (f : StartFault) → BuildEmptyAnswer h rows ty v m (Err f) n → EmptyStops h rows ty m f n
   unbuilt F.Store answer = answer

@@ -29,12 +29,19 @@ use Rattle.ild_typed.specs.Slots.{element_of}
 use Rattle.ild_run_open.specs.Empty.{IsEmpty}
 use Rattle.ild_run_open.specs.inside.Steps.{IsOfEmpty}
 use Rattle.ild_run_open.proofs.Empties.{by_form, is_one, nodes_gone, not_in_none}
-use Rattle.ild_run_open.proofs.NoEntries.{root_short, trie_of_none}
+use Rattle.ild_run_open.proofs.NoEntries.{empty_list_short, empty_map_short, empty_text_short, root_short, trie_of_none}
+
+-- the data of no parts
+abbrev no_data : List Data
+no_data = []
+
+abbrev no_pairs : List (List ℕ × Data)
+no_pairs = []
 
 module _ (h : List ℕ → List ℕ) (rows : List Row) where
   -- ---- of no entry there is a trie
 
-  -- whether a layer of this form has no trie, and then one of its parts, of which there are none
+  -- whether the layer has no trie, or one of its parts, of which there are none
   abbrev full : Option TypeDef → Value → Bool
   full o v = is_exhausted h rows o v || option_map_or (λ (u : Slot). false) (element_of o) false
 
@@ -42,7 +49,7 @@ module _ (h : List ℕ → List ℕ) (rows : List Row) where
   map_full key key_at value at MF.Map = refl
   map_full key key_at value at MF.ListPairs = refl
   map_full key key_at value at (MF.StringPairs inner entry) = refl
-  map_full key key_at value at (MF.Hamt p) = ap (λ o. is_none o || false) (trie_of_none h p)
+  map_full key key_at value at (MF.Hamt p) = ap (λ (o : Option Data). is_none o || false) (trie_of_none h p)
 
   not_full : (ty : TypeNo) (v : Value) → IsEmpty rows ty v → exhausts h rows (plainly ty) v ≡ false
   not_full ty v e =
@@ -58,23 +65,23 @@ module _ (h : List ℕ → List ℕ) (rows : List Row) where
   IsShort (Some d) = length (spell d) ≤ longest_block
 
   -- the layers of the empty list and of the empty map
-  abbrev no_items : Option TypeDef → Option (Layer Data)
-  no_items o = option_map L.list (option_and_then (λ (u : Slot). Some []) (element_of o))
+  abbrev list_layer : Option TypeDef → Option (Layer Data)
+  list_layer o = option_map L.list (option_and_then (λ (u : Slot). Some no_data) (element_of o))
 
-  abbrev no_entries : Option TypeDef → Option (Layer Data)
-  no_entries o = option_map L.map (option_and_then (λ (u : Slot). Some []) (element_of o))
+  abbrev map_layer : Option TypeDef → Option (Layer Data)
+  map_layer o = option_map L.map (option_and_then (λ (u : Slot). Some no_pairs) (element_of o))
 
   map_short : (key : TypeNo) (key_at : ℕ) (value : Slot) (at : ℕ) (form : MapForm)
-      → IsShort (layered (whole h) (Some (D.Map key key_at value at form)) (no_entries (Some (D.Map key key_at value at form))))
-  map_short key key_at value at MF.Map = omega arith
-  map_short key key_at value at MF.ListPairs = omega arith
-  map_short key key_at value at (MF.StringPairs inner entry) = omega arith
-  map_short key key_at value at (MF.Hamt p) = subst (λ o. IsShort (option_map (root_map p) o)) (sym (trie_of_none h p)) (root_short p)
+      → IsShort (layered (whole h) (Some (D.Map key key_at value at form)) (map_layer (Some (D.Map key key_at value at form))))
+  map_short key key_at value at MF.Map = empty_map_short
+  map_short key key_at value at MF.ListPairs = empty_list_short
+  map_short key key_at value at (MF.StringPairs inner entry) = empty_text_short
+  map_short key key_at value at (MF.Hamt p) = subst (λ (o : Option Data). IsShort (option_map (root_map p) o)) (sym (trie_of_none h p)) (root_short p)
 
   short : (ty : TypeNo) (v : Value) → IsEmpty rows ty v → IsShort (represented (whole h) rows (plainly ty) v)
   short ty v e =
-      by_form (λ w. IsShort (represented (whole h) rows (plainly ty) w)) (form_of rows (plainly ty)) (λ elem at is. subst (λ o. IsShort (layered (whole h) o (no_items o))) (sym is) (omega arith))
-      (λ key key_at value at form is. subst (λ o. IsShort (layered (whole h) o (no_entries o))) (sym is) (map_short key key_at value at form))
+      by_form (λ w. IsShort (represented (whole h) rows (plainly ty) w)) (form_of rows (plainly ty)) (λ elem at is. subst (λ o. IsShort (layered (whole h) o (list_layer o))) (sym is) empty_list_short)
+      (λ key key_at value at form is. subst (λ o. IsShort (layered (whole h) o (map_layer o))) (sym is) (map_short key key_at value at form))
       (form_of rows (plainly ty)) refl v e
 
   not_long : (ty : TypeNo) (v : Value) → IsEmpty rows ty v → IsTooLong h rows (plainly ty) v → ⊥

@@ -71,7 +71,7 @@ module _ (h : List ℕ → List ℕ) (view : View) (path : List (List ℕ)) (tel
   refused_fails F.Store f is = f
   refused_fails F.Memory f is = absurd cc
 
-  pub replies_told : (tree : Tree) → TellsFrom h view path tell m (Ok tree) n → (reply : Reply) → (reply ≡ printed (data_of tree)) ⊎ (reply ≡ R.No N.Memory) → RepliesAs h view path tell m reply n
+  pub replies_told : (tree : Tree) → TellsFrom h 96 view path tell m (Ok tree) n → (reply : Reply) → (reply ≡ printed (data_of tree)) ⊎ (reply ≡ R.No N.Memory) → RepliesAs h view path tell m reply n
   replies_told tree l reply r = record {
     answer = λ w t v a x. by w v a (l.answer t v x) r;
     gets = λ w t v a x. gets_are w v a (l.gets t v x);
@@ -90,7 +90,7 @@ module _ (h : List ℕ → List ℕ) (view : View) (path : List (List ℕ)) (tel
   refused w v F.Store a rose = inr (inl rose)
   refused w v F.Memory a x = inr (inl tt)
 
-  pub replies_refused : (e : ReadFault) → TellsFrom h view path tell m (Err e) n → RepliesAs h view path tell m (R.No (refusal_of e)) n
+  pub replies_refused : (e : ReadFault) → TellsFrom h 96 view path tell m (Err e) n → RepliesAs h view path tell m (R.No (refusal_of e)) n
   replies_refused e l = record {
     answer = λ w t v a x. refused w v e a (l.answer t v x);
     gets = λ w t v a x. gets_are w v a (l.gets t v x);

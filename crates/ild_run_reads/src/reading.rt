@@ -48,7 +48,7 @@ pub fn read<K: Store, H: KeyHash>(
     keys: &H,
     store: &mut K,
 ) -> Reply
-    requires shallow { ∥ IsShallow view.now ∥₁ }
+    requires shallow { ∥ IsShallow 96 view.now ∥₁ }
     ensures { RepliesAs H.hash_of view.now path.now what (K.moment store.old) result (K.moment store.new) }
 {
     match tell(alloc, view, at, path, what, keys, store) {

@@ -1,8 +1,6 @@
 -- Where a pair stands in a list of pairs, by its key.
-use Rattle.std.specs.Prelude.{◌≡◌, ℕ, Bool, true, false, is_some, List, [], ◌∷◌, Option, Some, None, map}
-use Rattle.ild_cbor.specs.Steps.{HasItems}
+use Rattle.std.specs.Prelude.{◌≡◌, ℕ, Bool, true, false, is_some, List, [], ◌∷◌, Option, Some, None}
 use Rattle.ild_cbor.specs.declared.items.Items.{Items}
-use Rattle.ild_data.specs.Data as T
 use Rattle.ild_data.specs.Data.{Data}
 use Rattle.ild_data.specs.Key.{same_text, value_at}
 use Rattle.ild_path_changes.specs.Pairs.{at_pair}
@@ -11,19 +9,11 @@ use Rattle.ild_schema.specs.Clear.{AreNamesApart}
 use Rattle.ild_schema.specs.Marks.{field_text}
 use Rattle.ild_schema.specs.declared.def.Field.{Field}
 use Rattle.ild_typed.specs.Fields.{field_entries}
-use Rattle.ild_typed.specs.Strings.{listpairs, pair_data}
+use Rattle.ild_typed.specs.Strings.{listpairs}
 use Rattle.ild_path_last.specs.Change.{IsShown, located}
 use Rattle.ild_path_last.specs.declared.change.LastChange.{LastChange}
-use Rattle.ild_path_last.specs.declared.seat.Seat.{Seat}
-
--- an iterator that has these pairs left
-abbrev pub HasPairs : Items → List (List ℕ × Data) → Type 0
-HasPairs s es = HasItems s (T.items_of (map pair_data es))
-
--- the place, and whether there is something
-pub record IsSeat (seat : Seat) (place : ℕ) (there : Option Data) : Type 0 where
-  pub place_is : seat.place ≡ place
-  pub there_is : seat.there ≡ is_some there
+use Rattle.ild_path_steps.specs.Seats.{HasPairs, IsSeat}
+use Rattle.ild_path_steps.specs.declared.pair.Seat.{Seat}
 
 -- an iterator behind the first pair, where that has this key
 abbrev pub SeatIsBehind : List ℕ → List (List ℕ × Data) → Option Items → Type 0

@@ -7,7 +7,6 @@ use Rattle.ild_cbor.specs.declared.why.BlockWhy.TheVariants as B
 use Rattle.ild_cbor.specs.declared.why.Why.{Why}
 use Rattle.ild_hamt_climb.specs.Way.{IsRootOf}
 use Rattle.ild_data.specs.Data.{Data}
-use Rattle.ild_data.specs.Limits.{deepest}
 use Rattle.ild_data.specs.Spell.{id_of}
 use Rattle.ild_data.specs.Trie.{TrieSlot}
 use Rattle.ild_data.specs.TrieShape.{trie_levels}
@@ -62,23 +61,23 @@ pub record WalksTrie (h : List ℕ → List ℕ) (p : HamtShape) (k : List ℕ) 
   pub is : result ≡ entered_as found
   pub walk : Descends h p k slots m found n
 
--- data of an entry are viewed where they have a front
-abbrev pub ChecksEntry : List Row → Option TypeDef → Node → Data → Result View ReadFault → Type 0
-ChecksEntry rows d node t (Ok view) = (slot : Slot) × (element_of d ≡ Some slot) × IsViewAt rows slot (P.Node node) view × RepresentsSome (Fits rows 96) rows slot t
-ChecksEntry rows d node t (Err F.Path) = ⊥
-ChecksEntry rows d node t (Err (F.Block id why)) = (slot : Slot) → element_of d ≡ Some slot → RepresentsSome (Fits rows 96) rows slot t → ⊥
-ChecksEntry rows d node t (Err F.Store) = ⊥
-ChecksEntry rows d node t (Err F.Memory) = Unit {0}
+-- data of an entry are viewed where they have a front in this room
+abbrev pub ChecksEntry : List Row → ℕ → Option TypeDef → Node → Data → Result View ReadFault → Type 0
+ChecksEntry rows room d node t (Ok view) = (slot : Slot) × (element_of d ≡ Some slot) × IsViewAt rows slot (P.Node node) view × RepresentsSome (Fits rows room) rows slot t
+ChecksEntry rows room d node t (Err F.Path) = ⊥
+ChecksEntry rows room d node t (Err (F.Block id why)) = (slot : Slot) → element_of d ≡ Some slot → RepresentsSome (Fits rows room) rows slot t → ⊥
+ChecksEntry rows room d node t (Err F.Store) = ⊥
+ChecksEntry rows room d node t (Err F.Memory) = Unit {0}
 
--- the block is refused, since the data of an entry in it are none of a HAMT's values, which may nest 96 levels
-pub record IsRefusedEntry (rows : List Row) (d : Option TypeDef) (block : List ℕ) (t : Data) (id : List ℕ) (why : BlockWhy) : Type 0 where
+-- the block is refused, since the data of an entry in it are none of a HAMT's values, which may nest so many levels
+pub record IsRefusedEntry (rows : List Row) (room : ℕ) (d : Option TypeDef) (block : List ℕ) (t : Data) (id : List ℕ) (why : BlockWhy) : Type 0 where
   pub named : id ≡ id_of block
   pub slot : Slot
   pub is : element_of d ≡ Some slot
   pub cause : Why
   pub told : why ≡ B.Shape cause
   pub type : TypeNo
-  pub refused : IsRefusal rows deepest slot t type cause
+  pub refused : IsRefusal rows room slot t type cause
 
-abbrev pub RefusesEntry : List Row → Option TypeDef → List ℕ → Data → Result View ReadFault → Type 0
-RefusesEntry rows d block t r = RefusesBlock (λ id why. IsRefusedEntry rows d block t id why) r
+abbrev pub RefusesEntry : List Row → ℕ → Option TypeDef → List ℕ → Data → Result View ReadFault → Type 0
+RefusesEntry rows room d block t r = RefusesBlock (λ id why. IsRefusedEntry rows room d block t id why) r

@@ -12,7 +12,7 @@ load_flat-requires-clause-tree g c =
     let d = data_of c.args.tree.now in
     let x = c.in-Ok.ensures.found in
     let stands : HasData c.in-Ok.node d = subst (HasData c.in-Ok.node) (one_within x.0 d x.1.within c.requires.is_tree (sym x.1.spelled ∙ c.requires.spelled)) x.2.stands in
-    spelled_tree c.args.acc.now c.args.slot c.in-Ok.node d stands c.requires.front
+    spelled_tree c.args.acc.now c.args.room c.args.slot c.in-Ok.node d stands c.requires.front
 
 pub load_flat-requires-clause-flat : goal.load_flat-requires-clause-flat
 load_flat-requires-clause-flat g c =
@@ -26,7 +26,7 @@ returns g c =
     let d = data_of c.args.tree.now in
     let x = c.in-Ok.ensures.found in
     let stands : HasData c.in-Ok.node d = subst (HasData c.in-Ok.node) (one_within x.0 d x.1.within c.requires.is_tree (sym x.1.spelled ∙ c.requires.spelled)) x.2.stands in
-    loads_spelled g.H.KeyHash.hash_of c.args.acc.now c.args.slot c.in-Ok.node d (g.K.Store.moment c.args.store.now) (g.K.Store.moment c.load_flat.new.store) c.load_flat.result stands c.load_flat.ensures
+    loads_spelled g.H.KeyHash.hash_of c.args.acc.now c.args.room c.args.slot c.in-Ok.node d (g.K.Store.moment c.args.store.now) (g.K.Store.moment c.load_flat.new.store) c.load_flat.result stands c.load_flat.ensures
 
 pub unreachable-requires : goal.unreachable-requires
 unreachable-requires g c =

@@ -12,12 +12,12 @@ returns-then-is_nest g c =
     let rows = c.args.acc.now in
     let m = g.K.Store.moment c.args.store.now in
     let n = g.K.Store.moment c.load_in.new.store in
-    loads_piece h rows c.args.slot (id_of (bytes_in c.args.at)) (P.Node c.args.node.now) m n c.load_in.result c.requires.tree
-    (subst (λ (a : List ℕ). ReadsSlot h a rows 96 true c.args.slot (P.Node c.args.node.now) m c.load_in.result n) c.id.ensures c.load_in.ensures)
+    loads_piece h rows c.args.room c.args.slot (id_of (bytes_in c.args.at)) (P.Node c.args.node.now) m n c.load_in.result c.requires.tree
+    (subst (λ (a : List ℕ). ReadsSlot h a rows c.args.room true c.args.slot (P.Node c.args.node.now) m c.load_in.result n) c.id.ensures c.load_in.ensures)
 
 pub load_flat-requires-clause-flat : goal.load_flat-requires-clause-flat
 load_flat-requires-clause-flat g c = c.is_nest.ensures c.if-is_nest.false
 
 pub returns : goal.returns
 returns g c =
-    flat_loads g.H.KeyHash.hash_of c.args.acc.now c.args.slot (id_of (bytes_in c.args.at)) (P.Node c.args.node.now) (g.K.Store.moment c.args.store.now) (g.K.Store.moment c.load_flat.new.store) c.load_flat.result c.load_flat.ensures
+    flat_loads g.H.KeyHash.hash_of c.args.acc.now c.args.room c.args.slot (id_of (bytes_in c.args.at)) (P.Node c.args.node.now) (g.K.Store.moment c.args.store.now) (g.K.Store.moment c.load_flat.new.store) c.load_flat.result c.load_flat.ensures

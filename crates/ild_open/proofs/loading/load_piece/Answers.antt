@@ -11,7 +11,7 @@ pub returns-in-Node : goal.returns-in-Node
 returns-in-Node g c =
     let m = g.K.Store.moment c.args.store.now in
     let n = g.K.Store.moment c.load_node.new.store in
-    subst (λ p. LoadsPiece g.H.KeyHash.hash_of c.args.acc.now c.args.slot (id_of (bytes_in c.args.at)) p m c.load_node.result n) (sym c.in-Node.is) c.load_node.ensures
+    subst (λ p. LoadsPiece g.H.KeyHash.hash_of c.args.acc.now c.args.room c.args.slot (id_of (bytes_in c.args.at)) p m c.load_node.result n) (sym c.in-Node.is) c.load_node.ensures
 
 pub returns-in-Inline : goal.returns-in-Inline
 returns-in-Inline g c =
@@ -20,22 +20,22 @@ returns-in-Inline g c =
     let m = g.K.Store.moment c.args.store.now in
     let n = g.K.Store.moment c.load_in.new.store in
     let at = id_of (bytes_in c.args.at) in
-    subst (λ p. LoadsPiece h rows c.args.slot at p m c.load_in.result n) (sym c.in-Inline.is)
-    (loads_piece h rows c.args.slot at (P.Inline c.in-Inline.field-0 c.in-Inline.field-1) m n c.load_in.result (rw c.in-Inline.is at c.requires.tree)
-    (subst (λ (a : List ℕ). ReadsSlot h a rows 96 true c.args.slot (P.Inline c.in-Inline.field-0 c.in-Inline.field-1) m c.load_in.result n) c.id.ensures (rw c.in-Inline.is at c.load_in.ensures)))
+    subst (λ p. LoadsPiece h rows c.args.room c.args.slot at p m c.load_in.result n) (sym c.in-Inline.is)
+    (loads_piece h rows c.args.room c.args.slot at (P.Inline c.in-Inline.field-0 c.in-Inline.field-1) m n c.load_in.result (rw c.in-Inline.is at c.requires.tree)
+    (subst (λ (a : List ℕ). ReadsSlot h a rows c.args.room true c.args.slot (P.Inline c.in-Inline.field-0 c.in-Inline.field-1) m c.load_in.result n) c.id.ensures (rw c.in-Inline.is at c.load_in.ensures)))
 
 pub returns-in-Text : goal.returns-in-Text
 returns-in-Text g c =
     let m = g.K.Store.moment c.args.store.now in
     let n = g.K.Store.moment c.load_flat.new.store in
     let at = id_of (bytes_in c.args.at) in
-    subst (λ p. LoadsPiece g.H.KeyHash.hash_of c.args.acc.now c.args.slot at p m c.load_flat.result n) (sym c.in-Text.is)
-    (flat_loads g.H.KeyHash.hash_of c.args.acc.now c.args.slot at (P.Text c.in-Text.field-0) m n c.load_flat.result (rw c.in-Text.is at c.load_flat.ensures))
+    subst (λ p. LoadsPiece g.H.KeyHash.hash_of c.args.acc.now c.args.room c.args.slot at p m c.load_flat.result n) (sym c.in-Text.is)
+    (flat_loads g.H.KeyHash.hash_of c.args.acc.now c.args.room c.args.slot at (P.Text c.in-Text.field-0) m n c.load_flat.result (rw c.in-Text.is at c.load_flat.ensures))
 
 pub returns-in-Bytes : goal.returns-in-Bytes
 returns-in-Bytes g c =
     let m = g.K.Store.moment c.args.store.now in
     let n = g.K.Store.moment c.load_flat-in-Bytes.new.store in
     let at = id_of (bytes_in c.args.at) in
-    subst (λ p. LoadsPiece g.H.KeyHash.hash_of c.args.acc.now c.args.slot at p m c.load_flat-in-Bytes.result n) (sym c.in-Bytes.is)
-    (flat_loads g.H.KeyHash.hash_of c.args.acc.now c.args.slot at (P.Bytes c.in-Bytes.field-0) m n c.load_flat-in-Bytes.result (rw c.in-Bytes.is at c.load_flat-in-Bytes.ensures))
+    subst (λ p. LoadsPiece g.H.KeyHash.hash_of c.args.acc.now c.args.room c.args.slot at p m c.load_flat-in-Bytes.result n) (sym c.in-Bytes.is)
+    (flat_loads g.H.KeyHash.hash_of c.args.acc.now c.args.room c.args.slot at (P.Bytes c.in-Bytes.field-0) m n c.load_flat-in-Bytes.result (rw c.in-Bytes.is at c.load_flat-in-Bytes.ensures))

@@ -4,7 +4,7 @@ use Rattle.ild_schema.specs.Marks.{field_text}
 use Rattle.ild_path_steps.proofs.Fielding.{field_is}
 use Rattle.ild_path_changes.specs.Pairs.{at_pair}
 use Rattle.ild_path_changes.specs.Places.{field_data, left_out, written}
-use Rattle.ild_path_last.proofs.Seeking.{pairs_in}
+use Rattle.ild_path_steps.proofs.Pairing.{pairs_in}
 use Rattle.ild_path_last.proofs.seat.field_pair_change.Goals as goal
 
 pub returns-in-Some : goal.returns-in-Some

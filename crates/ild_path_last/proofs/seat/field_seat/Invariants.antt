@@ -6,7 +6,7 @@ use Rattle.ild_schema.specs.declared.def.Field.{Field}
 use Rattle.ild_typed.specs.Fields.{field_entries}
 use Rattle.ild_path_last.proofs.Passing.{Walks}
 use Rattle.ild_path_last.proofs.seat.field_seat.Given as goal
-use Rattle.ild_path_last.specs.inside.Seats.{HasPairs}
+use Rattle.ild_path_steps.specs.Seats.{HasPairs}
 
 abbrev pub invariant-loop-i : goal.invariant-loop-i
 invariant-loop-i l = (l.i ≤ l.number) × ((ds : List (Option Data)) (es : List (List ℕ × Data)) (k : List ℕ) (g : Field) → field_entries l.fields ds ≡ Some es → HasPairs l.items es → AreNamesApart l.fields → field_named k l.fields ≡ Some g

@@ -2,7 +2,7 @@ use Rattle.std.proofs.Common.{sym, ◌∙◌, ap}
 use Rattle.ild_data.specs.Key.{value_at}
 use Rattle.ild_path_changes.specs.Pairs.{at_pair}
 use Rattle.ild_typed.specs.Strings.{listpairs}
-use Rattle.ild_path_last.proofs.Seeking.{pairs_in}
+use Rattle.ild_path_steps.proofs.Pairing.{pairs_in}
 use Rattle.ild_path_last.proofs.seat.key_pair_change.Goals as goal
 
 pub returns-in-Some : goal.returns-in-Some

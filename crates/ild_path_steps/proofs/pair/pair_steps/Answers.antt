@@ -1,20 +1,17 @@
-use Rattle.std.proofs.Common.{List, map, subst, ap, Some}
-use Rattle.std.proofs.lemmas.Option.{same_Some, none-some}
-use Rattle.ild_cbor.specs.Steps.{HasItems}
-use Rattle.ild_data.specs.Data as T
-use Rattle.ild_data.specs.Data.{Data}
-use Rattle.ild_data.proofs.Lists.{items_list-items_of}
-use Rattle.ild_path_changes.specs.Places.{place_of}
+use Rattle.std.proofs.Common.{ap, sym, ◌∙◌, Some}
+use Rattle.std.specs.Prelude.{is_some}
+use Rattle.std.proofs.lemmas.Bool.{false≢true}
+use Rattle.ild_path_steps.proofs.Pairing.{pairs_in}
 use Rattle.ild_path_steps.specs.declared.steps.PartSteps.TheVariants as P
-use Rattle.ild_typed.specs.Strings.{listpairs, pair_data}
+use Rattle.ild_typed.specs.Strings.{listpairs}
 use Rattle.ild_path_steps.proofs.pair.pair_steps.Goals as goal
 
-pub returns-in-Some-pair_place : goal.returns-in-Some-pair_place
-returns-in-Some-pair_place c = λ rows es x stands there.
-    let left = subst (λ (ds : List Data). HasItems c.in-Some.items (T.items_of ds)) (items_list-items_of (map pair_data es)) (c.in-Some.ensures rows (listpairs es) stands) in
-    ap (λ n. Some (P.Pair n)) (same_Some c.in-Some-pair_place.place (place_of c.args.key.now es) (c.in-Some-pair_place.ensures es x left there))
+pub returns-then-seat : goal.returns-then-seat
+returns-then-seat c = λ rows es x stands there.
+    let seat = c.key_seat-seat.ensures es (pairs_in es c.in-Some.items (c.in-Some.ensures rows (listpairs es) stands)) in
+    ap (λ n. Some (P.Pair n)) seat.place_is
 
-pub returns-in-None-pair_place : goal.returns-in-None-pair_place
-returns-in-None-pair_place c = λ rows es x stands there.
-    let left = subst (λ (ds : List Data). HasItems c.in-Some.items (T.items_of ds)) (items_list-items_of (map pair_data es)) (c.in-Some.ensures rows (listpairs es) stands) in
-    absurd (none-some (place_of c.args.key.now es) (c.in-None-pair_place.ensures es x left there))
+pub returns-else-seat : goal.returns-else-seat
+returns-else-seat c = λ rows es x stands there.
+    let seat = c.key_seat-seat.ensures es (pairs_in es c.in-Some.items (c.in-Some.ensures rows (listpairs es) stands)) in
+    absurd (false≢true (sym c.if-seat.false ∙ seat.there_is ∙ ap is_some there))

@@ -17,8 +17,8 @@ returns-in-Ok-clause-checks c = λ d stands.
     let rows = c.schema-acc.result.now in
     let form = form_of rows (slot_of c.args.hamt.now) in
     let schema : IsSchema rows = record { table = c.recall.ensures.table; accepted = c.recall.ensures.accepted } in
-    subst (λ (r : List Row). ChecksEntry r (form_of r (slot_of c.args.hamt.now)) c.args.node d (Ok c.in-Ok.view)) c.schema-acc.ensures
-    (checks_view rows schema c.refused_have_no_front.ensures form c.args.node c.in-Some.slot c.in-Some.ensures d c.in-Ok.view (c.in-Ok.ensures.views d stands))
+    subst (λ (r : List Row). ChecksEntry r c.args.room (form_of r (slot_of c.args.hamt.now)) c.args.node d (Ok c.in-Ok.view)) c.schema-acc.ensures
+    (checks_view rows c.args.room schema c.refused_have_no_front.ensures form c.args.node c.in-Some.slot c.in-Some.ensures d c.in-Ok.view (c.in-Ok.ensures.views d stands))
 
 pub unreachable-requires : goal.unreachable-requires
 unreachable-requires c = ∥∥₁_elim c.requires (hlevel props) (λ x. hamt_valued c.schema-acc.result.now c.args.hamt.now (sym c.schema-acc.ensures) x.0 x.1 c.in_default.ensures)
@@ -27,5 +27,5 @@ pub returns-in-Err-Shape-clause-refused : goal.returns-in-Err-Shape-clause-refus
 returns-in-Err-Shape-clause-refused c = λ d stands.
     let rows = c.schema-acc.result.now in
     let form = form_of rows (slot_of c.args.hamt.now) in
-    subst (λ (r : List Row). RefusesEntry r (form_of r (slot_of c.args.hamt.now)) (bytes_in c.args.at) d (Err (F.Block c.id.result (B.Shape c.in-Err-Shape.why)))) c.schema-acc.ensures
-    (refuses_entry rows form c.in-Some.slot c.in-Some.ensures (bytes_in c.args.at) d c.id.result c.in-Err-Shape.why c.in-Err-Shape.field-0-0 c.id.ensures (rw c.in-Err-Shape.field-0-is at c.in-Err-Shape.ensures.views d stands))
+    subst (λ (r : List Row). RefusesEntry r c.args.room (form_of r (slot_of c.args.hamt.now)) (bytes_in c.args.at) d (Err (F.Block c.id.result (B.Shape c.in-Err-Shape.why)))) c.schema-acc.ensures
+    (refuses_entry rows c.args.room form c.in-Some.slot c.in-Some.ensures (bytes_in c.args.at) d c.id.result c.in-Err-Shape.why c.in-Err-Shape.field-0-0 c.id.ensures (rw c.in-Err-Shape.field-0-is at c.in-Err-Shape.ensures.views d stands))

@@ -1,6 +1,6 @@
 use Rattle.ild_schema.specs.ValueSeen.{value_of}
 use Rattle.ild_run_open.proofs.Empties.{fits, typed}
-use Rattle.ild_run_open.proofs.Putting.{built, stopped}
+use Rattle.ild_run_open.proofs.Putting.{builds, stops}
 use Rattle.ild_run_open.proofs.Short.{of_empty}
 use Rattle.ild_run_open.proofs.empty.block_of.Goals as goal
 
@@ -16,8 +16,8 @@ built_fault-requires g c =
 
 pub returns-in-Ok : goal.returns-in-Ok
 returns-in-Ok g c =
-    built g.H.KeyHash.hash_of c.args.acc.now c.args.ty (value_of c.args.empty.now) c.requires.empty (g.K.Store.moment c.args.store.now) (g.K.Store.moment c.build.new.store) c.in-Ok.block c.in-Ok.ensures
+    builds g.H.KeyHash.hash_of c.args.acc.now c.args.ty (value_of c.args.empty.now) c.requires.empty (g.K.Store.moment c.args.store.now) (g.K.Store.moment c.build.new.store) c.in-Ok.block c.in-Ok.ensures
 
 pub returns-in-Err : goal.returns-in-Err
 returns-in-Err g c =
-    stopped g.H.KeyHash.hash_of c.args.acc.now c.args.ty (value_of c.args.empty.now) c.requires.empty (g.K.Store.moment c.args.store.now) (g.K.Store.moment c.build.new.store) c.in-Err.fault c.built_fault.result c.built_fault.ensures c.in-Err.ensures
+    stops g.H.KeyHash.hash_of c.args.acc.now c.args.ty (value_of c.args.empty.now) c.requires.empty (g.K.Store.moment c.args.store.now) (g.K.Store.moment c.build.new.store) c.in-Err.fault c.built_fault.result c.built_fault.ensures c.in-Err.ensures

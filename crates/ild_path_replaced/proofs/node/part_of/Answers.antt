@@ -1,5 +1,5 @@
-use Rattle.ild_path_apply.proofs.Finding.{by_entry, by_item, by_pair}
-use Rattle.ild_path_apply.proofs.part.part_of.Goals as goal
+use Rattle.ild_path_replaced.proofs.Finding.{by_entry, by_item, by_pair}
+use Rattle.ild_path_replaced.proofs.node.part_of.Goals as goal
 
 pub returns-in-Item : goal.returns-in-Item
 returns-in-Item c = λ t d q at. by_item c.args.node.now t d q at c.args.steps.now c.item.result c.in-Item.i c.in-Item.is c.item.ensures

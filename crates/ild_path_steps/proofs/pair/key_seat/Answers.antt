@@ -1,5 +1,5 @@
-use Rattle.ild_path_last.proofs.Seeking.{begins, ends, found, goes_on}
-use Rattle.ild_path_last.proofs.seat.key_seat.Goals as goal
+use Rattle.ild_path_steps.proofs.Pairing.{begins, ends, found, goes_on}
+use Rattle.ild_path_steps.proofs.pair.key_seat.Goals as goal
 
 pub loop-item-init : goal.loop-item-init
 loop-item-init c = λ es h. begins c.args.key.now es c.args.items h
