@@ -8,8 +8,6 @@ use Rattle.ild_data.specs.Limits.{deepest, longest_block}
 use Rattle.ild_data.specs.Spell.{spell}
 use Rattle.ild_data.specs.Tree.{IsTree}
 use Rattle.ild_schema.specs.Slots.{form_of}
-use Rattle.ild_schema.specs.declared.def.Scalar.TheVariants as C
-use Rattle.ild_schema.specs.declared.def.TypeDef.TheVariants as D
 use Rattle.ild_typed.proofs.CleanFields.{scalar_self}
 use Rattle.ild_typed.proofs.Flat.{IsFlat}
 use Rattle.ild_typed.proofs.Structs.{scalar_data}

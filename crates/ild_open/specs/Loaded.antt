@@ -1,5 +1,5 @@
 -- What loading a view answers: the value at it, which follows from the blocks that gets gave, or the block for which there is none.
-use Rattle.std.specs.Prelude.{◌≡◌, ℕ, ◌+◌, ◌≤◌, List, length, Option, Some, Result, Ok, Err}
+use Rattle.std.specs.Prelude.{◌≡◌, ℕ, ◌+◌, ◌≤◌, List, length, Some, Result, Ok, Err}
 use Rattle.ild_data.specs.Data.{Data}
 use Rattle.ild_edges.specs.Gained.{FromBlocks}
 use Rattle.ild_edges.specs.Count.{Rose}

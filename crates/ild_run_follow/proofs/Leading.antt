@@ -39,7 +39,7 @@ use Rattle.ild_run_follow.specs.declared.kind.Tell.{Tell}
 use Rattle.ild_run_follow.specs.declared.kind.Tell.TheVariants as T
 use Rattle.ild_run_follow.proofs.Rooms.{IsLeft, is_left, reach_part, room_low}
 use Rattle.ild_run_follow.proofs.Standing.{part_at, viewed}
-use Rattle.ild_run_follow.specs.inside.Rooms.{LeavesRoom, room_reached}
+use Rattle.ild_run_follow.specs.inside.Rooms.{LeavesRoom, Steps, room_reached}
 
 -- ---- no get at all
 
@@ -127,10 +127,6 @@ module _ (h : List ℕ → List ℕ) (rows : List Row) (block : List ℕ → Opt
   to_none (here q) e reaches leads = absurd reaches
   to_none (enter q i) e reaches leads = absurd reaches
   to_none (no_path i) e reaches leads = leads
-
--- what a step of a view says of every front
-abbrev pub Steps : View → ℕ → List (List ℕ) → Result Step NoPath → Type 0
-Steps view k path step = (f : Value) → IsView view f → Reaches (table_of view) (reached (table_of view) k (slot_of view, f) path) step
 
 pub stepped : (view : View) (k : ℕ) (path : List (List ℕ)) (s t : Step) → s ≡ t → Steps view k path (Ok s) → Steps view k path (Ok t)
 stepped view k path s t is steps = subst (λ (x : Step). Steps view k path (Ok x)) is steps

@@ -22,7 +22,7 @@ use Rattle.ild_schema.specs.declared.row.Row.{Row}
 use Rattle.ild_typed.proofs.Rooms.{fits_more}
 use Rattle.ild_typed.specs.At.{InSlot, Reach, here, enter, no_path, or_enter, reached, seen}
 use Rattle.ild_typed.specs.Fits.{Fits}
-use Rattle.ild_typed.specs.Hamt.{alone, whole}
+use Rattle.ild_typed.specs.Hamt.{alone}
 use Rattle.ild_typed.specs.OfType.{OfType}
 use Rattle.ild_typed.specs.Represented.{represented}
 use Rattle.ild_typed.specs.Schema.{IsSchema}
@@ -69,22 +69,22 @@ part_in rows schema room p q s fits is =
 
 -- ---- of a value that is held
 
+-- it is the front of a value that is held
+abbrev pub IsLeft : (List ℕ → Option (List ℕ)) → (List ℕ → List ℕ) → List Row → ℕ → InSlot → Type 0
+IsLeft block h rows room f = (q : InSlot) × IsFrontOf block h rows room f q
+
 module _ (block : List ℕ → Option (List ℕ)) (h : List ℕ → List ℕ) (rows : List Row) (schema : IsSchema rows) where
   part_held : (room : ℕ) (p q : InSlot) (t : Data) (s : List ℕ) → IsHeld block h rows room p.0 t p.1 → part (seen rows p) s ≡ Some q → (d : Data) × IsHeld block h rows (room_below rows room p s) q.0 d q.1
   part_held room p q t s held is =
       let d = parts_are_held block h rows schema room p q t s held is in
       (d.0, record { fits = part_in rows schema room p q s held.fits is; tree = d.1.tree; held = d.1.held })
 
-  -- it is the front of a value that is held
-  abbrev pub IsLeft : ℕ → InSlot → Type 0
-  IsLeft room f = (q : InSlot) × IsFrontOf block h rows room f q
-
-  at_once : (room : ℕ) (p f : InSlot) (t : Data) → IsHeld block h rows room p.0 t p.1 → front_in h rows p ≡ f → IsLeft room f
+  at_once : (room : ℕ) (p f : InSlot) (t : Data) → IsHeld block h rows room p.0 t p.1 → front_in h rows p ≡ f → IsLeft block h rows room f
   at_once room p f t held is = (p, record { tree = t; held = held; front = sym is })
 
   abbrev Onward : ℕ → List (List ℕ) → InSlot → Type 0
   Onward room ss f =
-      (k : ℕ) (q : InSlot) (d : Data) → IsHeld block h rows room q.0 d q.1 → reach_part (reached rows k (front_in h rows q) ss) ≡ Some f → IsLeft (room_reached rows room (front_in h rows q) ss) f
+      (k : ℕ) (q : InSlot) (d : Data) → IsHeld block h rows room q.0 d q.1 → reach_part (reached rows k (front_in h rows q) ss) ≡ Some f → IsLeft block h rows (room_reached rows room (front_in h rows q) ss) f
 
   module _ (room k : ℕ) (p : InSlot) (t : Data) (f : InSlot) (s : List ℕ) (ss : List (List ℕ)) (held : IsHeld block h rows room p.0 t p.1) (on : Onward (room_below rows room p s) ss f) where
     abbrev ReachOf : Option InSlot → Value → Reach
@@ -93,28 +93,28 @@ module _ (block : List ℕ → Option (List ℕ)) (h : List ℕ → List ℕ) (r
     abbrev RoomOf : Option InSlot → ℕ
     RoomOf o = option_map_or (λ q. room_reached rows (room_below rows room p s) q ss) o room
 
-    by_part : (o : Option InSlot) → part (seen rows p) s ≡ o → reach_part (ReachOf (option_map (front_in h rows) o) (front h rows p.0 p.1)) ≡ Some f → IsLeft (RoomOf (option_map (front_in h rows) o)) f
+    by_part : (o : Option InSlot) → part (seen rows p) s ≡ o → reach_part (ReachOf (option_map (front_in h rows) o) (front h rows p.0 p.1)) ≡ Some f → IsLeft block h rows (RoomOf (option_map (front_in h rows) o)) f
     by_part None e is = at_once room p f t held (or_part k p.0 (front h rows p.0 p.1) f is)
     by_part (Some q) e is = let d = part_held room p q t s held e in on (suc k) q d.0 d.1 is
 
-    by_root : (b : Bool) → is_root rows p ≡ b → reach_part (reached rows k (front_in h rows p) (s ∷ ss)) ≡ Some f → IsLeft (room_reached rows room (front_in h rows p) (s ∷ ss)) f
+    by_root : (b : Bool) → is_root rows p ≡ b → reach_part (reached rows k (front_in h rows p) (s ∷ ss)) ≡ Some f → IsLeft block h rows (room_reached rows room (front_in h rows p) (s ∷ ss)) f
     by_root true root is =
         let same : front h rows p.0 p.1 ≡ V.hamt t = root_front h rows p.0 p.1 t held.tree root in
-        subst (λ (v : Value). reach_part (reached rows k (p.0, v) (s ∷ ss)) ≡ Some f → IsLeft (room_reached rows room (p.0, v) (s ∷ ss)) f) (sym same)
+        subst (λ (v : Value). reach_part (reached rows k (p.0, v) (s ∷ ss)) ≡ Some f → IsLeft block h rows (room_reached rows room (p.0, v) (s ∷ ss)) f) (sym same)
         (λ e. at_once room p f t held (ap (λ (v : Value). (p.0, v)) same ∙ same_Some (p.0, V.hamt t) f e)) is
     by_root false plain is =
         let tests = schemas_have_tests rows schema in
         let same = parts_of_fronts h rows tests.0.is_key schema tests.1.keys p s (room, held.fits) plain in
-        subst (λ (o : Option InSlot). reach_part (ReachOf o (front h rows p.0 p.1)) ≡ Some f → IsLeft (RoomOf o) f) (sym same) (by_part (part (seen rows p) s) refl) is
+        subst (λ (o : Option InSlot). reach_part (ReachOf o (front h rows p.0 p.1)) ≡ Some f → IsLeft block h rows (RoomOf o) f) (sym same) (by_part (part (seen rows p) s) refl) is
 
   -- what a path reaches in its front is the front of a part in what is left of the room
   pub is_left : (path : List (List ℕ)) (room : ℕ) (f : InSlot) (k : ℕ) (p : InSlot) (t : Data) → IsHeld block h rows room p.0 t p.1 → reach_part (reached rows k (front_in h rows p) path) ≡ Some f
-      → IsLeft (room_reached rows room (front_in h rows p) path) f
+      → IsLeft block h rows (room_reached rows room (front_in h rows p) path) f
   is_left [] room f k p t held is = at_once room p f t held (same_Some (front_in h rows p) f is)
   is_left (s ∷ ss) room f k p t held is = by_root room k p t f s ss held (is_left ss (room_below rows room p s) f) (is_root rows p) refl is
 
   -- which is the one part that has this front
-  pub held_in : (room less : ℕ) → room ≤ 96 → less ≤ room → (f p : InSlot) → IsSafe rows p.0 → IsLeft less f → (x : IsFrontOf block h rows room f p) → IsHeld block h rows less p.0 x.tree p.1
+  pub held_in : (room less : ℕ) → room ≤ 96 → less ≤ room → (f p : InSlot) → IsSafe rows p.0 → IsLeft block h rows less f → (x : IsFrontOf block h rows room f p) → IsHeld block h rows less p.0 x.tree p.1
   held_in room less low le f p safe own x =
       let q = own.0 in
       let y = own.1 in

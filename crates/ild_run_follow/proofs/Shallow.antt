@@ -27,9 +27,8 @@ use Rattle.ild_view.specs.declared.view.View.{View}
 use Rattle.ild_open.proofs.Carrying.{held_piece}
 use Rattle.ild_open.specs.Loaded.{IsShallow, IsShown}
 use Rattle.ild_run_follow.specs.inside.Enters.{ChecksEntry}
-use Rattle.ild_run_follow.proofs.Leading.{Steps}
 use Rattle.ild_run_follow.proofs.Rooms.{part_in}
-use Rattle.ild_run_follow.specs.inside.Rooms.{LeavesRoom, room_reached}
+use Rattle.ild_run_follow.specs.inside.Rooms.{LeavesRoom, Steps, room_reached}
 
 pub shown_part : (rows : List Row) (room : ℕ) (q : InSlot) (w : View) (x : IsPartView rows q w) → Fits rows room q.0 q.1 → IsShown room w x.view.tree
 shown_part rows room q w x fits = record {

@@ -1,7 +1,7 @@
 -- A walk over the segments of a path in one block, and what it leaves of a room.
 use Rattle.std.proofs.Common.{◌≡◌, ◌<◌, ◌≤◌, ◌+◌, ◌-◌, ℕ, zero, suc, List, [], ◌∷◌, length, drop, get_or, Option, Some, None, refl, sym, ap, ◌∙◌, subst, arith}
 use Rattle.std.specs.Option.{option_map_or}
-use Rattle.std.specs.Prelude.{Result, Ok, Err}
+use Rattle.std.specs.Prelude.{Result, Ok}
 use Rattle.ild_path_edits.specs.Along.{room_below, taken}
 use Rattle.ild_run_follow.specs.inside.Rooms.{room_reached}
 use Rattle.ild_schema.specs.Slots.{form_of}

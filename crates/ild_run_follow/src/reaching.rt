@@ -1,10 +1,6 @@
 //! How far a path leads in one block, and what the holders on the way leave of a room.
-ghost use Rattle.std.specs.Prelude.{◌≡◌, ◌≤◌, drop};
-ghost use Rattle.ild_run_follow.specs.inside.Rooms.{LeavesRoom};
-ghost use Rattle.ild_schema.specs.Value.{Value};
-ghost use Rattle.ild_typed.specs.At.{reached};
-ghost use Rattle.ild_view.specs.Reaches.{Reaches};
-ghost use Rattle.ild_view.specs.View.{IsView, slot_of, table_of};
+ghost use Rattle.std.specs.Prelude.{◌≤◌, drop};
+ghost use Rattle.ild_run_follow.specs.inside.Rooms.{LeavesRoom, Steps};
 
 use ild_data::Path;
 use ild_path_room::levels;
@@ -18,7 +14,7 @@ pub(crate) fn reach<'b>(
     from: usize,
     room: u32,
 ) -> (Result<Step<'b>, NoPath>, u32)
-    ensures steps { (f : Value) → IsView view.now f → Reaches (table_of view.now) (reached (table_of view.now) from (slot_of view.now, f) (drop from path.now)) result.0 }
+    ensures steps { Steps view.now from (drop from path.now) result.0 }
     ensures leaves { LeavesRoom view.now room (drop from path.now) result.1 }
     ensures low { result.1 ≤ room }
 {

@@ -7,7 +7,7 @@ use Rattle.ild_open.specs.Blocks.{bytes_in}
 use Rattle.ild_schema.specs.Slots.{form_of}
 use Rattle.ild_schema.specs.Value.{hamt}
 use Rattle.ild_typed.specs.Schema.{IsSchema}
-use Rattle.ild_run_follow.proofs.Leading.{below_length, enters_lower, enters_root, enters_within, key_behind, never_past, on_lower, tells_here, tells_in, tells_none}
+use Rattle.ild_run_follow.proofs.Leading.{below_length, enters_lower, enters_root, enters_within, key_behind, never_past, on_lower, stepped, tells_here, tells_in, tells_none}
 use Rattle.ild_view.specs.View.{slot_of, table_of}
 use Rattle.ild_run_follow.proofs.Refusing.{goes_on, left_of_site, nothing_along, nothing_in, refuses_entered, refuses_here, stops_at, stops_in}
 use Rattle.ild_run_follow.proofs.Rooms.{left_behind}
@@ -18,35 +18,35 @@ use Rattle.ild_run_follow.proofs.following.+follow.Goals as goal
 pub tell_from-tell_in-requires : goal.tell_from-tell_in-requires
 tell_from-tell_in-requires g t c = λ κs le.
     let rest = drop c.args.from c.args.path.now in
-    let step = rw c.in-Ok-Enter.is at c.reach-step.ensures.steps in
+    let step = stepped c.args.view c.args.from (drop c.args.from c.args.path.now) c.in-Ok-Enter.field-0 _ (rw c.in-Ok-Enter.is at c.in-Ok-Enter.field-0-is) (rw c.in-Ok-Enter.is at c.reach-left.ensures.steps) in
     let behind = key_behind c.args.view c.args.from rest c.in-Ok-Enter.hamt c.in-Ok-Enter.k step in
     let lower = enters_lower (length c.args.path.now) c.args.from c.in-Ok-Enter.k behind in
     let root = enters_root c.args.view c.args.from rest c.in-Ok-Enter.hamt c.in-Ok-Enter.k step in
     let within = enters_within c.args.view c.args.from c.args.path.now c.in-Ok-Enter.hamt c.in-Ok-Enter.k behind step in
-    (omega (arith, lower), (le.0, (le.1, (omega (arith, c.reach-step.ensures.low, c.requires.low), (root, within)))))
+    (omega (arith, lower), (le.0, (le.1, (omega (arith, c.reach-left.ensures.low, c.requires.low), (root, within)))))
 
 pub tell_from-returns-in-Ok-Here-clause-tells : goal.tell_from-returns-in-Ok-Here-clause-tells
 tell_from-returns-in-Ok-Here-clause-tells g t c =
     let schema = subst IsSchema c.schema.ensures (record { table = c.recall.ensures.table; accepted = c.recall.ensures.accepted }) in
     tells_here g.H.KeyHash.hash_of c.args.room c.requires.low c.args.view schema c.args.from (drop c.args.from c.args.path.now) c.args.tell (g.K.Store.moment c.args.store.now) (g.K.Store.moment c.tell_here.new.store)
-    c.tell_here.result c.in-Ok-Here.part c.reach-step.result.1 (rw c.in-Ok-Here.is at c.reach-step.ensures.steps) c.reach-step.ensures.leaves c.tell_here.ensures.tells
+    c.tell_here.result c.in-Ok-Here.part c.reach-left.result.1 (stepped c.args.view c.args.from (drop c.args.from c.args.path.now) c.in-Ok-Here.field-0 _ (rw c.in-Ok-Here.is at c.in-Ok-Here.field-0-is) (rw c.in-Ok-Here.is at c.reach-left.ensures.steps)) c.reach-left.ensures.leaves c.tell_here.ensures.tells
 
 pub tell_from-returns-in-Ok-Enter-clause-tells : goal.tell_from-returns-in-Ok-Enter-clause-tells
 tell_from-returns-in-Ok-Enter-clause-tells g t c =
     let schema = subst IsSchema c.schema.ensures (record { table = c.recall.ensures.table; accepted = c.recall.ensures.accepted }) in
     let view = c.args.view in
     let left = drop c.args.from c.args.path.now in
-    let step = rw c.in-Ok-Enter.is at c.reach-step.ensures.steps in
+    let step = stepped c.args.view c.args.from (drop c.args.from c.args.path.now) c.in-Ok-Enter.field-0 _ (rw c.in-Ok-Enter.is at c.in-Ok-Enter.field-0-is) (rw c.in-Ok-Enter.is at c.reach-left.ensures.steps) in
     let m = g.K.Store.moment c.args.store.now in
     let n = g.K.Store.moment c.tell_in.new.store in
-    tells_in g.H.KeyHash.hash_of c.args.room c.requires.low view schema c.args.from left c.args.tell m n c.tell_in.result c.in-Ok-Enter.hamt c.reach-step.result.1 c.in-Ok-Enter.k c.args.path.now refl step c.reach-step.ensures.leaves
+    tells_in g.H.KeyHash.hash_of c.args.room c.requires.low view schema c.args.from left c.args.tell m n c.tell_in.result c.in-Ok-Enter.hamt c.reach-left.result.1 c.in-Ok-Enter.k c.args.path.now refl step c.reach-left.ensures.leaves
     c.tell_in.ensures.tells
 
 pub tell_from-returns-in-Err-clause-tells : goal.tell_from-returns-in-Err-clause-tells
 tell_from-returns-in-Err-clause-tells g t c =
     let schema = subst IsSchema c.schema.ensures (record { table = c.recall.ensures.table; accepted = c.recall.ensures.accepted }) in
     tells_none g.H.KeyHash.hash_of c.args.room c.requires.low c.args.view schema c.args.from (drop c.args.from c.args.path.now) c.args.tell (g.K.Store.moment c.args.store.now) (g.K.Store.moment c.args.store.now) c.absent.result
-    c.in-Err.field-0 (rw c.in-Err.is at c.reach-step.ensures.steps) c.absent.ensures refl
+    c.in-Err.field-0 (rw c.in-Err.is at c.reach-left.ensures.steps) c.absent.ensures refl
 
 pub tell_in-returns-in_err-trail-clause-tells : goal.tell_in-returns-in_err-trail-clause-tells
 tell_in-returns-in_err-trail-clause-tells g t c =
@@ -81,7 +81,7 @@ tell_in-tell_from-requires g t c = λ κs le.
 pub tell_from-tell_here-requires-clause-shallow : goal.tell_from-tell_here-requires-clause-shallow
 tell_from-tell_here-requires-clause-shallow g t c =
     let schema = subst IsSchema c.schema.ensures (record { table = c.recall.ensures.table; accepted = c.recall.ensures.accepted }) in
-    shallow_here c.args.room c.args.view schema c.args.from (drop c.args.from c.args.path.now) c.in-Ok-Here.part c.reach-step.result.1 (rw c.in-Ok-Here.is at c.reach-step.ensures.steps) c.reach-step.ensures.leaves c.requires.shallow
+    shallow_here c.args.room c.args.view schema c.args.from (drop c.args.from c.args.path.now) c.in-Ok-Here.part c.reach-left.result.1 (stepped c.args.view c.args.from (drop c.args.from c.args.path.now) c.in-Ok-Here.field-0 _ (rw c.in-Ok-Here.is at c.in-Ok-Here.field-0-is) (rw c.in-Ok-Here.is at c.reach-left.ensures.steps)) c.reach-left.ensures.leaves c.requires.shallow
 
 pub tell_in-returns-in-Ok-clause-tells : goal.tell_in-returns-in-Ok-clause-tells
 tell_in-returns-in-Ok-clause-tells g t c =
@@ -111,7 +111,7 @@ tell_from-returns-in-Ok-Here-clause-refused g t c = λ f d seen front.
     let schema = subst IsSchema c.schema.ensures (record { table = c.recall.ensures.table; accepted = c.recall.ensures.accepted }) in
     let left = drop c.args.from c.args.path.now in
     refuses_here c.parts_stand_in_data.ensures g.H.KeyHash.hash_of (table_of view) schema (id_of (bytes_in c.args.at)) c.args.room c.args.from (slot_of view, f) d left front (g.K.Store.moment c.args.store.now)
-    (g.K.Store.moment c.tell_here.new.store) c.tell_here.result c.in-Ok-Here.part c.reach-step.result.1 (c.reach-step.ensures.leaves f seen) (rw c.in-Ok-Here.is at c.reach-step.ensures.steps f seen) c.tell_here.ensures.refused
+    (g.K.Store.moment c.tell_here.new.store) c.tell_here.result c.in-Ok-Here.part c.reach-left.result.1 (c.reach-left.ensures.leaves f seen) (stepped c.args.view c.args.from (drop c.args.from c.args.path.now) c.in-Ok-Here.field-0 _ (rw c.in-Ok-Here.is at c.in-Ok-Here.field-0-is) (rw c.in-Ok-Here.is at c.reach-left.ensures.steps) f seen) c.tell_here.ensures.refused
 
 pub tell_from-returns-in-Ok-Enter-clause-refused : goal.tell_from-returns-in-Ok-Enter-clause-refused
 tell_from-returns-in-Ok-Enter-clause-refused g t c = λ f d seen front.
@@ -119,8 +119,8 @@ tell_from-returns-in-Ok-Enter-clause-refused g t c = λ f d seen front.
     let schema = subst IsSchema c.schema.ensures (record { table = c.recall.ensures.table; accepted = c.recall.ensures.accepted }) in
     let left = drop c.args.from c.args.path.now in
     refuses_entered c.parts_stand_in_data.ensures g.H.KeyHash.hash_of (table_of view) schema (id_of (bytes_in c.args.at)) c.args.room c.args.from (slot_of view, f) d left front (g.K.Store.moment c.args.store.now)
-    (g.K.Store.moment c.tell_in.new.store) c.tell_in.result c.in-Ok-Enter.hamt c.in-Ok-Enter.k c.reach-step.result.1 (bytes_in c.args.at) refl (c.reach-step.ensures.leaves f seen)
-    (rw c.in-Ok-Enter.is at c.reach-step.ensures.steps f seen) c.tell_in.ensures.refused
+    (g.K.Store.moment c.tell_in.new.store) c.tell_in.result c.in-Ok-Enter.hamt c.in-Ok-Enter.k c.reach-left.result.1 (bytes_in c.args.at) refl (c.reach-left.ensures.leaves f seen)
+    (stepped c.args.view c.args.from (drop c.args.from c.args.path.now) c.in-Ok-Enter.field-0 _ (rw c.in-Ok-Enter.is at c.in-Ok-Enter.field-0-is) (rw c.in-Ok-Enter.is at c.reach-left.ensures.steps) f seen) c.tell_in.ensures.refused
 
 pub tell_from-returns-in-Err-clause-refused : goal.tell_from-returns-in-Err-clause-refused
 tell_from-returns-in-Err-clause-refused g t c = λ f d seen front.
