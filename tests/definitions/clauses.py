@@ -7,6 +7,7 @@ import re
 
 USE = re.compile(r"^\s*(?:ghost |pub )*use (Rattle\.(ild_\w+)\.specs\.[\w.]+?)(?:\.\{([^}]*)\}| as (\w+))?;?\s*$", re.M)
 HEAD = re.compile(r"\s*(pub(?:\(\w+\))? )?(?:const |unsafe )*fn \w")
+CLAUSE = re.compile(r"\s*(?:requires|ensures)\b")
 GHOST = re.compile(r"\s*(?:pub )?ghost (?!use\b)")
 
 
@@ -16,19 +17,35 @@ def imports(source):
         yield module, crate, [name.split(" as ")[-1].strip() for name in names.split(",") if name.strip()] + ([other] if other else [])
 
 
-def public_lines(source):
-    """The lines of public clauses. The head of a function ends where its body begins, or in a trait at a semicolon."""
-    of_trait = is_shown = False
+def told_lines(source):
+    """The lines of heads with public clauses, each with whether it belongs to a clause that the outside sees: not to a signature, and not to
+    a type or a trait that is the crate's own. The head of a function ends where its body begins, or in a trait at a semicolon."""
+    of_trait = of_own = is_shown = is_clause = False
     for line in source.splitlines():
-        if re.match(r"[a-z]", line):
+        if line[:1].islower():
             of_trait = bool(re.match(r"(pub )?trait\b|impl\b.* for ", line))
-        head = HEAD.match(line)
+            of_own = bool(re.match(r"(pub\(\w+\) )?(struct|enum|trait)\b", line))
+        head = "fn " in line and HEAD.match(line)
+        ghost = "ghost " in line and GHOST.match(line)
         if head:
             is_shown = head[1] == "pub " or (of_trait and not head[1])
-        is_shown |= bool(GHOST.match(line))
+            is_clause = False
+        is_shown = is_shown or bool(ghost)
         if is_shown:
-            yield line
-        is_shown &= not line.endswith(("{", "{}", ";"))
+            is_clause = is_clause or bool(ghost or CLAUSE.match(line))
+            yield line, is_clause and not of_own
+            if line.endswith(("{", "{}", ";")):
+                is_shown = is_clause = False
+
+
+def public_lines(source):
+    """The lines of public functions' heads, of traits, of impls of traits, and of the ghost members of types."""
+    return (line for line, _ in told_lines(source))
+
+
+def public_clauses(source):
+    """The lines of the clauses among them that the outside sees."""
+    return (line for line, is_clause in told_lines(source) if is_clause)
 
 
 def named_in(text, names):
