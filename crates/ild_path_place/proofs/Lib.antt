@@ -14,3 +14,4 @@ pub mod Failing
 pub mod Holing
 pub mod Linking
 pub mod Refusing
+pub mod Showing

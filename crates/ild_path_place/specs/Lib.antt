@@ -9,4 +9,5 @@ pub mod Comes
 pub mod Exhausting
 pub mod Links
 pub mod Refuses
+pub mod Viewing
 pub mod inside

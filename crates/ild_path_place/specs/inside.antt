@@ -3,3 +3,4 @@ pub mod Keys
 pub mod Endings
 pub mod Inner
 pub mod Innermost
+pub mod Shown

@@ -13,6 +13,7 @@ mod place;
 mod refusal;
 mod room;
 mod verb;
+mod viewing;
 
 pub use fault::PathFault;
 pub use locating::locate;

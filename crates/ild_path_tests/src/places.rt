@@ -1,4 +1,4 @@
-//! What a place tells of an edit there: by hand, from the levels of the forms and the table of edits.
+//! What a place tells of an edit there, and what stands there: by hand, from the levels of the forms and the table of edits.
 use crate::told::{doc_of, verb_of};
 use ild_compile::compile;
 use ild_data::PadKeys;
@@ -12,7 +12,8 @@ use std::test::Fail;
 
 const SRC: &str =
     "type T struct { a Int b optional Int c optional Int } representation tuple type M {E:[Int]} type E enum { | Ann | Bob } \
-        type H {String:[H]} representation advanced HAMT type L [H]";
+        type H {String:[H]} representation advanced HAMT type L [H] \
+        type N {String:Int} representation advanced HAMT type P {String:[Int]} representation advanced HAMT type I int";
 
 /// A type, a block of it in hexadecimals, and a line; then whether the key fits (`f`), whether a hole is left (`h`), and how many of 96 levels are left
 /// to the part that may come, or 0 where none may. The HAMT has one key `a`, whose value is the empty list.
@@ -31,13 +32,40 @@ const TOLD: [&str; 12] = [
     "L 81a36468616d7482582000000000000000000000000002000000000000000000000000000000000000008181824161806768617368416c67126a6275636b657453697a6503 ins /0/a/- 0 => f- 89",
 ];
 
+/// The same, and then the integer that stands at the place before, or `none` where nothing stands there yet. The HAMTs have one key `a`.
+const SHOWN: [&str; 12] = [
+    "I 07 set . 0 => view 7",
+    "T 83010203 set /b 0 => view 2",
+    "T 83010203 del /c => view 3",
+    "T 8101 set /b 0 => view none",
+    "M a163416e6e8105 del /Ann/0 => view 5",
+    "M a163416e6e8105 ins /Ann/0 0 => view none",
+    "M a163416e6e8105 ins /Ann/- 0 => view none",
+    "N a36468616d7482582000000000000000000000000002000000000000000000000000000000000000008181824161056768617368416c67126a6275636b657453697a6503 set /a 0 => view 5",
+    "N a36468616d7482582000000000000000000000000002000000000000000000000000000000000000008181824161056768617368416c67126a6275636b657453697a6503 del /a => view 5",
+    "N a36468616d7482582000000000000000000000000002000000000000000000000000000000000000008181824161056768617368416c67126a6275636b657453697a6503 set /b 0 => view none",
+    "P a36468616d748258200000000000000000000000000200000000000000000000000000000000000000818182416181056768617368416c67126a6275636b657453697a6503 set /a/0 0 => view 5",
+    "P a36468616d748258200000000000000000000000000200000000000000000000000000000000000000818182416181056768617368416c67126a6275636b657453697a6503 ins /a/0 0 => view none",
+];
+
 fn flag(letter: u8, on: bool) -> u8 {
     if on { letter } else { b'-' }
+}
+
+/// Whether this integer stands at a place.
+fn shows(place: &Place<'_>, want: &str) -> Option<bool> {
+    match place.view() {
+        Some(view) => Some(view.int()?.get() == i128::from(want.parse::<i64>().ok()?)),
+        None => Some(want == "none"),
+    }
 }
 
 /// Whether a place tells this.
 fn tells(place: &Place<'_>, want: &str) -> Option<bool> {
     let (letters, levels) = want.split_once(' ')?;
+    if letters == "view" {
+        return shows(place, levels);
+    }
     let told = [flag(b'f', place.key_fits()), flag(b'h', place.hole())];
     let room = levels.parse::<u32>().ok()?;
     let same = room == 0 || place.room()? == room;
@@ -76,5 +104,11 @@ fn all_so(alloc: Global, rows: &[&'static str]) -> Result<(), &'static str> {
 #[test]
 fn of_places(rt: HostRuntime) -> Result<(), Fail> {
     all_so(rt.alloc(), &TOLD)?;
+    Ok(())
+}
+
+#[test]
+fn of_parts_at_places(rt: HostRuntime) -> Result<(), Fail> {
+    all_so(rt.alloc(), &SHOWN)?;
     Ok(())
 }
