@@ -29,16 +29,16 @@ use Rattle.ild_run.specs.declared.status.Status.TheVariants as S
 abbrev Checks : Work → List Row → Type 0
 Checks w rows = (w ≡ lists (declared_names rows)) ⊎ (w ≡ ends F.Memory)
 
-checked : (c : Call) (rows : List Row) (given : IsGivenSchema c rows) (t : Taking) (verdict : Option Verdict) → IsVerdict (Taken.Bytes given.schema) verdict → Checks (compiled_work (checks given.schema_name) verdict t) rows
+checked : (c : Call) (rows : List Row) (given : IsGivenSchema c rows) (t : Taking) (verdict : Option Verdict) → IsVerdict (Taken.Bytes given.schema.bytes) verdict → Checks (compiled_work (checks given.schema_name) verdict t) rows
 checked c rows given t None says = inr refl
 checked c rows given t (Some v) says =
-    let one : v ≡ table rows = one_verdict_lem given.schema v (table rows) says given.compiles in
+    let one : v ≡ table rows = one_verdict_lem given.schema.bytes v (table rows) says given.schema.compiles in
     inl (ap (λ x. compiled_work (checks given.schema_name) (Some x) t) one)
 
 checked_job : (c : Call) (rows : List Row) (given : IsGivenSchema c rows) (t : Taking) → IsTaking (checks given.schema_name) c.before.supply t → Checks (job_work (checks given.schema_name) t) rows
 checked_job c rows given t taken =
     let job = checks given.schema_name in
-    let schema_is = subst (λ (f : Option (List (List ℕ × List ℕ))). MayBe f given.schema_name (t.input Role.Schema)) given.told (taken.input Role.Schema) ∙ given.schema_held in
+    let schema_is = subst (λ (f : Option (List (List ℕ × List ℕ))). MayBe f given.schema_name (t.input Role.Schema)) given.told (taken.input Role.Schema) ∙ given.schema.held in
     let same : job_work job t ≡ compiled_work job t.verdict t = ap (λ x. schema_work job x t.verdict t) schema_is in
     subst (λ (w : Work). Checks w rows) (sym same) (checked c rows given t t.verdict (subst (λ (x : Taken). IsVerdict x t.verdict) schema_is taken.verdict))
 
@@ -63,9 +63,9 @@ no_check_root w rows opened n id (inl is) work = let e : lists (declared_names r
 no_check_root w rows opened n id (inr is) work = let e : ends F.Memory ≡ opens opened n id = sym is ∙ work in cc
 
 no_check_store : (c : Call) (t : Taking) (rows : List Row) → Checks (work_of c.job t) rows → AsksScript c t ⊎ (TriesValue c t ⊎ ReadsRoot c t) → ⊥
-no_check_store c t rows is (inl asks) = no_check_answers (work_of c.job t) rows asks.rows asks.type asks.start asks.bytes is asks.work
-no_check_store c t rows is (inr (inr reads)) = no_check_root (work_of c.job t) rows reads.rows reads.type reads.root is reads.work
-no_check_store c t rows is (inr (inl tries)) = no_check_value (work_of c.job t) rows tries.rows tries.type tries.bytes is tries.work
+no_check_store c t rows is (inl asks) = no_check_answers (work_of c.job t) rows asks.script.rows asks.script.type asks.script.start asks.script.bytes is asks.script.work
+no_check_store c t rows is (inr (inr reads)) = no_check_root (work_of c.job t) rows reads.opened.rows reads.opened.type reads.opened.root is reads.opened.work
+no_check_store c t rows is (inr (inl tries)) = no_check_value (work_of c.job t) rows tries.value.rows tries.value.type tries.value.bytes is tries.value.work
 
 no_check_fault : (c : Call) (rows : List Row) (given : IsGivenSchema c rows) (calm : IsCalm c) (t : Taking) (f : Fault) → AreTaken c.job c.before.supply t → IsDue c t f → f ≡ F.Memory
 no_check_fault c rows given calm t F.Memory taken due = refl
@@ -75,12 +75,12 @@ no_check_fault c rows given calm t (F.Input role T.Failed) taken due = absurd (c
 no_check_fault c rows given calm t (F.Input role T.Absent) taken due = absurd (no_check_end (work_of c.job t) (F.Input role T.Absent) rows (checked_work c rows given t taken) (λ e. cc) due.0)
 no_check_fault c rows given calm t (F.Input role T.Long) taken due = absurd (no_check_end (work_of c.job t) (F.Input role T.Long) rows (checked_work c rows given t taken) (λ e. cc) due.0)
 no_check_fault c rows given calm t F.Store taken due = absurd (no_check_store c t rows (checked_work c rows given t taken) due.1)
-no_check_fault c rows given calm t (F.Clash id) taken (inl due) = absurd (no_check_answers (work_of c.job t) rows due.rows due.type due.start due.bytes (checked_work c rows given t taken) due.work)
-no_check_fault c rows given calm t (F.Clash id) taken (inr clash) = absurd (no_check_value (work_of c.job t) rows clash.rows clash.type clash.bytes (checked_work c rows given t taken) clash.work)
-no_check_fault c rows given calm t (F.Value r) taken (inl due) = absurd (let x = due.1 in no_check_answers (work_of c.job t) rows x.rows x.type x.start x.bytes (checked_work c rows given t taken) x.work)
-no_check_fault c rows given calm t (F.Value r) taken (inr due) = absurd (no_check_value (work_of c.job t) rows due.rows due.type due.bytes (checked_work c rows given t taken) due.work)
-no_check_fault c rows given calm t (F.Root id why) taken (inl due) = absurd (no_check_answers (work_of c.job t) rows due.rows due.type due.start due.bytes (checked_work c rows given t taken) due.work)
-no_check_fault c rows given calm t (F.Root id why) taken (inr due) = absurd (no_check_root (work_of c.job t) rows due.rows due.type due.root (checked_work c rows given t taken) due.work)
+no_check_fault c rows given calm t (F.Clash id) taken (inl due) = absurd (no_check_answers (work_of c.job t) rows due.script.rows due.script.type due.script.start due.script.bytes (checked_work c rows given t taken) due.script.work)
+no_check_fault c rows given calm t (F.Clash id) taken (inr clash) = absurd (no_check_value (work_of c.job t) rows clash.value.rows clash.value.type clash.value.bytes (checked_work c rows given t taken) clash.value.work)
+no_check_fault c rows given calm t (F.Value r) taken (inl due) = absurd (let x = due.1 in no_check_answers (work_of c.job t) rows x.script.rows x.script.type x.script.start x.script.bytes (checked_work c rows given t taken) x.script.work)
+no_check_fault c rows given calm t (F.Value r) taken (inr due) = absurd (no_check_value (work_of c.job t) rows due.value.rows due.value.type due.value.bytes (checked_work c rows given t taken) due.value.work)
+no_check_fault c rows given calm t (F.Root id why) taken (inl due) = absurd (no_check_answers (work_of c.job t) rows due.script.rows due.script.type due.script.start due.script.bytes (checked_work c rows given t taken) due.script.work)
+no_check_fault c rows given calm t (F.Root id why) taken (inr due) = absurd (no_check_root (work_of c.job t) rows due.opened.rows due.opened.type due.opened.root (checked_work c rows given t taken) due.opened.work)
 
 same_names : (w : Work) (names : List (List ℕ)) (rows : List Row) → Checks w rows → w ≡ lists names → names ≡ declared_names rows
 same_names w names rows (inl is) work = let e : lists names ≡ lists (declared_names rows) = sym work ∙ is in cc
@@ -90,15 +90,15 @@ abbrev IsListed : Call → List Row → Status → Type 0
 IsListed c rows status = (status ≡ S.Memory) ⊎ ((status ≡ S.Done) × Lists (declared_names rows) c.before.output c.after.output)
 
 listed_by : (c : Call) (rows : List Row) (given : IsGivenSchema c rows) (calm : IsCalm c) (t : Taking) (status : Status) → AreTaken c.job c.before.supply t → Says c t status → IsListed c rows status
-listed_by c rows given calm t S.Done taken (inl all) = absurd (no_check_answers (work_of c.job t) rows all.rows all.type all.start all.bytes (checked_work c rows given t taken) all.work)
-listed_by c rows given calm t S.Done taken (inr (inr (inl created))) = absurd (no_check_value (work_of c.job t) rows created.rows created.type created.bytes (checked_work c rows given t taken) created.work)
-listed_by c rows given calm t S.Done taken (inr (inr (inr (inr told)))) = absurd (other_sort _ _ _ (checked_work c rows given t taken) told.work refl refl)
-listed_by c rows given calm t S.Done taken (inr (inr (inr (inl shows)))) = absurd (let has = shows.1.has in no_check_root (work_of c.job t) rows has.rows has.type has.root (checked_work c rows given t taken) has.work)
+listed_by c rows given calm t S.Done taken (inl all) = absurd (no_check_answers (work_of c.job t) rows all.script.rows all.script.type all.script.start all.script.bytes (checked_work c rows given t taken) all.script.work)
+listed_by c rows given calm t S.Done taken (inr (inr (inl created))) = absurd (no_check_value (work_of c.job t) rows created.value.rows created.value.type created.value.bytes (checked_work c rows given t taken) created.value.work)
+listed_by c rows given calm t S.Done taken (inr (inr (inr (inr told)))) = absurd (other_sort _ _ _ (checked_work c rows given t taken) told.types.work refl refl)
+listed_by c rows given calm t S.Done taken (inr (inr (inr (inl shows)))) = absurd (let has = shows.1.has in no_check_root (work_of c.job t) rows has.opened.rows has.opened.type has.opened.root (checked_work c rows given t taken) has.opened.work)
 listed_by c rows given calm t S.Done taken (inr (inl listed)) =
     inr (refl, subst (λ (names : List (List ℕ)). Lists names c.before.output c.after.output) (same_names (work_of c.job t) listed.names rows (checked_work c rows given t taken) listed.work) listed.written)
-listed_by c rows given calm t S.Refused taken (inl all) = absurd (no_check_answers (work_of c.job t) rows all.rows all.type all.start all.bytes (checked_work c rows given t taken) all.work)
-listed_by c rows given calm t S.Refused taken (inr (inr told)) = absurd (other_sort _ _ _ (checked_work c rows given t taken) told.1.work refl refl)
-listed_by c rows given calm t S.Refused taken (inr (inl shows)) = absurd (let has = shows.has in no_check_root (work_of c.job t) rows has.rows has.type has.root (checked_work c rows given t taken) has.work)
+listed_by c rows given calm t S.Refused taken (inl all) = absurd (no_check_answers (work_of c.job t) rows all.script.rows all.script.type all.script.start all.script.bytes (checked_work c rows given t taken) all.script.work)
+listed_by c rows given calm t S.Refused taken (inr (inr told)) = absurd (other_sort _ _ _ (checked_work c rows given t taken) told.1.types.work refl refl)
+listed_by c rows given calm t S.Refused taken (inr (inl shows)) = absurd (let has = shows.has in no_check_root (work_of c.job t) rows has.opened.rows has.opened.type has.opened.root (checked_work c rows given t taken) has.opened.work)
 listed_by c rows given calm t S.Memory taken says = inl refl
 listed_by c rows given calm t S.SinkFault taken says = absurd (calm.sink says.0)
 listed_by c rows given calm t S.Words taken says = absurd (let e = no_check_fault c rows given calm t F.Words taken says.due in cc)

@@ -42,32 +42,32 @@ module _ (c : Call) (given : IsGivenPair c) where
   job = compares given.schema_name given.next_name given.type_name
 
   abbrev IsComparing : Work → Type 0
-  IsComparing w = Comparing w given.rows given.others given.type given.later
+  IsComparing w = Comparing w given.typed.rows given.next.rows given.typed.type given.next.type
 
   -- ---- the work
 
-  next_matches : (verdict : Option Verdict) → IsVerdict (Taken.Bytes given.next) verdict → IsComparing (next_compiled given.rows given.type_name verdict)
+  next_matches : (verdict : Option Verdict) → IsVerdict (Taken.Bytes given.next.schema.bytes) verdict → IsComparing (next_compiled given.typed.rows given.type_name verdict)
   next_matches None says = inr refl
   next_matches (Some w) says =
-      let one : table given.others ≡ w = one_verdict_lem given.next (table given.others) w given.next_compiles says in
-      let same : types_work given.rows given.others (number_named given.type_name given.rows) (number_named given.type_name given.others) ≡ matches given.rows given.others given.type given.later =
-      ap (λ x. types_work given.rows given.others x (number_named given.type_name given.others)) given.named ∙ ap (λ x. types_work given.rows given.others (Some given.type.0) x) given.next_named in
-      subst (λ (x : Verdict). IsComparing (next_compiled given.rows given.type_name (Some x))) one (inl same)
+      let one : table given.next.rows ≡ w = one_verdict_lem given.next.schema.bytes (table given.next.rows) w given.next.schema.compiles says in
+      let same : types_work given.typed.rows given.next.rows (number_named given.type_name given.typed.rows) (number_named given.type_name given.next.rows) ≡ matches given.typed.rows given.next.rows given.typed.type given.next.type =
+      ap (λ x. types_work given.typed.rows given.next.rows x (number_named given.type_name given.next.rows)) given.typed.named ∙ ap (λ x. types_work given.typed.rows given.next.rows (Some given.typed.type.0) x) given.next.named in
+      subst (λ (x : Verdict). IsComparing (next_compiled given.typed.rows given.type_name (Some x))) one (inl same)
 
-  compiled_matches : (t : Taking) (verdict : Option Verdict) → t.input Role.Next ≡ Taken.Bytes given.next → IsVerdict (Taken.Bytes given.schema) verdict → IsVerdict (Taken.Bytes given.next) t.next → IsComparing (compiled_work job verdict t)
+  compiled_matches : (t : Taking) (verdict : Option Verdict) → t.input Role.Next ≡ Taken.Bytes given.next.schema.bytes → IsVerdict (Taken.Bytes given.typed.schema.bytes) verdict → IsVerdict (Taken.Bytes given.next.schema.bytes) t.next → IsComparing (compiled_work job verdict t)
   compiled_matches t None held says later = inr refl
   compiled_matches t (Some w) held says later =
-      let one : table given.rows ≡ w = one_verdict_lem given.schema (table given.rows) w given.compiles says in
+      let one : table given.typed.rows ≡ w = one_verdict_lem given.typed.schema.bytes (table given.typed.rows) w given.typed.schema.compiles says in
       subst (λ (x : Verdict). IsComparing (compiled_work job (Some x) t)) one
-      (subst (λ (x : Taken). IsComparing (next_work given.rows given.type_name x t.next)) (sym held) (next_matches t.next later))
+      (subst (λ (x : Taken). IsComparing (next_work given.typed.rows given.type_name x t.next)) (sym held) (next_matches t.next later))
 
   under : (name : List ℕ) (x : Taken) (b : List ℕ) → MayBe c.before.supply.files name x → taken_of (file_at given.files name) ≡ Taken.Bytes b → x ≡ Taken.Bytes b
   under name x b there held = subst (λ (f : Option (List (List ℕ × List ℕ))). MayBe f name x) given.told there ∙ held
 
   job_matches : (t : Taking) → IsTaking job c.before.supply t → IsComparing (job_work job t)
   job_matches t taken =
-      let schema_is = under given.schema_name (t.input Role.Schema) given.schema (taken.input Role.Schema) given.schema_held in
-      let next_is = under given.next_name (t.input Role.Next) given.next (taken.input Role.Next) given.next_held in
+      let schema_is = under given.schema_name (t.input Role.Schema) given.typed.schema.bytes (taken.input Role.Schema) given.typed.schema.held in
+      let next_is = under given.next_name (t.input Role.Next) given.next.schema.bytes (taken.input Role.Next) given.next.schema.held in
       let same : job_work job t ≡ compiled_work job t.verdict t = ap (λ x. schema_work job x t.verdict t) schema_is in
       subst IsComparing (sym same)
       (compiled_matches t t.verdict next_is (subst (λ (x : Taken). IsVerdict x t.verdict) schema_is taken.verdict) (subst (λ (x : Taken). IsVerdict x t.next) next_is taken.next))
@@ -79,12 +79,12 @@ module _ (c : Call) (given : IsGivenPair c) where
     -- ---- what it is not
 
     ends_not : (f : Fault) → (f ≡ F.Memory → ⊥) → work_of c.job t ≡ ends f → ⊥
-    ends_not f other ended = no_end (work_of c.job t) f given.rows given.others given.type given.later here other ended
+    ends_not f other ended = no_end (work_of c.job t) f given.typed.rows given.next.rows given.typed.type given.next.type here other ended
 
     asks_not : AsksScript c t ⊎ (TriesValue c t ⊎ ReadsRoot c t) → ⊥
-    asks_not (inl asks) = other_sort _ _ _ here asks.work refl refl
-    asks_not (inr (inl tries)) = other_sort _ _ _ here tries.work refl refl
-    asks_not (inr (inr reads)) = other_sort _ _ _ here reads.work refl refl
+    asks_not (inl asks) = other_sort _ _ _ here asks.script.work refl refl
+    asks_not (inr (inl tries)) = other_sort _ _ _ here tries.value.work refl refl
+    asks_not (inr (inr reads)) = other_sort _ _ _ here reads.opened.work refl refl
 
     no_fault : (f : Fault) → IsDue c t f → f ≡ F.Memory
     no_fault F.Memory due = refl
@@ -94,33 +94,33 @@ module _ (c : Call) (given : IsGivenPair c) where
     no_fault (F.Input role T.Absent) due = absurd (ends_not (F.Input role T.Absent) (λ e. cc) due.0)
     no_fault (F.Input role T.Long) due = absurd (ends_not (F.Input role T.Long) (λ e. cc) due.0)
     no_fault F.Store due = absurd (asks_not due.1)
-    no_fault (F.Clash id) (inl due) = absurd (other_sort _ _ _ here due.work refl refl)
-    no_fault (F.Clash id) (inr due) = absurd (other_sort _ _ _ here due.work refl refl)
-    no_fault (F.Value r) (inl due) = absurd (other_sort _ _ _ here due.1.work refl refl)
-    no_fault (F.Value r) (inr due) = absurd (other_sort _ _ _ here due.work refl refl)
-    no_fault (F.Root id why) (inl due) = absurd (other_sort _ _ _ here due.work refl refl)
-    no_fault (F.Root id why) (inr due) = absurd (other_sort _ _ _ here due.work refl refl)
+    no_fault (F.Clash id) (inl due) = absurd (other_sort _ _ _ here due.script.work refl refl)
+    no_fault (F.Clash id) (inr due) = absurd (other_sort _ _ _ here due.value.work refl refl)
+    no_fault (F.Value r) (inl due) = absurd (other_sort _ _ _ here due.1.script.work refl refl)
+    no_fault (F.Value r) (inr due) = absurd (other_sort _ _ _ here due.value.work refl refl)
+    no_fault (F.Root id why) (inl due) = absurd (other_sort _ _ _ here due.script.work refl refl)
+    no_fault (F.Root id why) (inr due) = absurd (other_sort _ _ _ here due.opened.work refl refl)
 
     -- ---- the answer
 
-    said : (found : Option Differ) → MatchesTypes c t found → IsTold given.rows given.others given.type given.later found c.before.output c.after.output
+    said : (found : Option Differ) → MatchesTypes c t found → IsTold given.typed.rows given.next.rows given.typed.type given.next.type found c.before.output c.after.output
     said found told = by here
       where
         P : List Row → List Row → TypeNo → TypeNo → Type 0
         P rows others m n = IsTold rows others m n found c.before.output c.after.output
 
-        by : IsComparing (work_of c.job t) → P given.rows given.others given.type given.later
-        by (inl is) = subst (OfMatched P) (sym told.work ∙ is) told.told
-        by (inr is) = absurd (subst (OfMatched P) (sym told.work ∙ is) told.told)
+        by : IsComparing (work_of c.job t) → P given.typed.rows given.next.rows given.typed.type given.next.type
+        by (inl is) = subst (OfMatched P) (sym told.types.work ∙ is) told.told
+        by (inr is) = absurd (subst (OfMatched P) (sym told.types.work ∙ is) told.told)
 
-    by_status : (status : Status) → Says c t status → (status ≡ S.Memory) ⊎ ComparesPlainly c given.rows given.others given.type given.later status
-    by_status S.Done (inl all) = absurd (other_sort _ _ _ here all.work refl refl)
+    by_status : (status : Status) → Says c t status → (status ≡ S.Memory) ⊎ ComparesPlainly c given.typed.rows given.next.rows given.typed.type given.next.type status
+    by_status S.Done (inl all) = absurd (other_sort _ _ _ here all.script.work refl refl)
     by_status S.Done (inr (inl listed)) = absurd (other_sort _ _ _ here listed.work refl refl)
-    by_status S.Done (inr (inr (inl made))) = absurd (other_sort _ _ _ here made.work refl refl)
-    by_status S.Done (inr (inr (inr (inl shows)))) = absurd (other_sort _ _ _ here shows.1.has.work refl refl)
+    by_status S.Done (inr (inr (inl made))) = absurd (other_sort _ _ _ here made.value.work refl refl)
+    by_status S.Done (inr (inr (inr (inl shows)))) = absurd (other_sort _ _ _ here shows.1.has.opened.work refl refl)
     by_status S.Done (inr (inr (inr (inr told)))) = inr (None, (refl, said None told))
-    by_status S.Refused (inl all) = absurd (other_sort _ _ _ here all.work refl refl)
-    by_status S.Refused (inr (inl shows)) = absurd (other_sort _ _ _ here shows.has.work refl refl)
+    by_status S.Refused (inl all) = absurd (other_sort _ _ _ here all.script.work refl refl)
+    by_status S.Refused (inr (inl shows)) = absurd (other_sort _ _ _ here shows.has.opened.work refl refl)
     by_status S.Refused (inr (inr told)) = inr (Some told.0, (refl, said (Some told.0) told.1))
     by_status S.Memory says = inl refl
     by_status S.SinkFault says = absurd (calm.sink says.0)
@@ -133,5 +133,5 @@ module _ (c : Call) (given : IsGivenPair c) where
     by_status S.Value says = absurd (let e = no_fault (F.Value says.0) says.1.due in cc)
 
 pub compared_by : (c : Call) (given : IsGivenPair c) → IsCalm c → (t : Taking) (status : Status) → AreTaken c.job c.before.supply t → Says c t status
-    → (status ≡ S.Memory) ⊎ ComparesPlainly c given.rows given.others given.type given.later status
+    → (status ≡ S.Memory) ⊎ ComparesPlainly c given.typed.rows given.next.rows given.typed.type given.next.type status
 compared_by c given calm t status taken says = by_status c given calm t taken status says

@@ -18,7 +18,7 @@ use Rattle.ild_run.specs.Work.{Work, Taking, ends, lists, matches, answers, make
 use Rattle.ild_run.specs.Shown.{hash}
 use Rattle.ild_run.specs.Words.{Job, shows}
 use Rattle.ild_run.specs.Ended.{Call, IsDue, HasRoot, Says}
-use Rattle.ild_run.specs.Complete.{IsGivenRoot, LetsShow, ShownBy, ShowsPlainly}
+use Rattle.ild_run.specs.Complete.{IsGivenRoot, IsFaultless, ShownBy, ShowsPlainly}
 use Rattle.ild_run.proofs.Matchings.{other_sort}
 use Rattle.ild_run.specs.declared.fault.Fault.{Fault}
 use Rattle.ild_run.specs.declared.fault.Fault.TheVariants as F
@@ -35,25 +35,25 @@ Opening w rows n id = (w ≡ opens rows n id) ⊎ (w ≡ ends F.Memory)
 abbrev job_in : (c : Call) (v : Typed) → IsGivenRoot c v → Job
 job_in c v given = shows given.schema_name given.type_name given.root
 
-compiled_opens : (c : Call) (v : Typed) (given : IsGivenRoot c v) (t : Taking) (verdict : Option Verdict) → IsVerdict (Taken.Bytes given.schema) verdict
-    → Opening (compiled_work (job_in c v given) verdict t) given.rows given.type given.root
+compiled_opens : (c : Call) (v : Typed) (given : IsGivenRoot c v) (t : Taking) (verdict : Option Verdict) → IsVerdict (Taken.Bytes given.typed.schema.bytes) verdict
+    → Opening (compiled_work (job_in c v given) verdict t) given.typed.rows given.typed.type given.root
 compiled_opens c v given t None says = inr refl
 compiled_opens c v given t (Some w) says =
-    let one : table given.rows ≡ w = one_verdict_lem given.schema (table given.rows) w given.compiles says in
-    subst (λ (x : Verdict). Opening (compiled_work (job_in c v given) (Some x) t) given.rows given.type given.root) one
-    (inl (ap (λ x. root_work given.rows x given.root) given.named))
+    let one : table given.typed.rows ≡ w = one_verdict_lem given.typed.schema.bytes (table given.typed.rows) w given.typed.schema.compiles says in
+    subst (λ (x : Verdict). Opening (compiled_work (job_in c v given) (Some x) t) given.typed.rows given.typed.type given.root) one
+    (inl (ap (λ x. root_work given.typed.rows x given.root) given.typed.named))
 
-job_opens : (c : Call) (v : Typed) (given : IsGivenRoot c v) (t : Taking) → IsTaking (job_in c v given) c.before.supply t → Opening (job_work (job_in c v given) t) given.rows given.type given.root
+job_opens : (c : Call) (v : Typed) (given : IsGivenRoot c v) (t : Taking) → IsTaking (job_in c v given) c.before.supply t → Opening (job_work (job_in c v given) t) given.typed.rows given.typed.type given.root
 job_opens c v given t taken =
     let job = job_in c v given in
-    let schema_is : t.input Role.Schema ≡ Taken.Bytes given.schema = subst (λ (f : Option (List (List ℕ × List ℕ))). MayBe f given.schema_name (t.input Role.Schema)) given.told (taken.input Role.Schema) ∙ given.schema_held in
+    let schema_is : t.input Role.Schema ≡ Taken.Bytes given.typed.schema.bytes = subst (λ (f : Option (List (List ℕ × List ℕ))). MayBe f given.schema_name (t.input Role.Schema)) given.told (taken.input Role.Schema) ∙ given.typed.schema.held in
     let same : job_work job t ≡ compiled_work job t.verdict t = ap (λ x. schema_work job x t.verdict t) schema_is in
-    subst (λ (w : Work). Opening w given.rows given.type given.root) (sym same)
+    subst (λ (w : Work). Opening w given.typed.rows given.typed.type given.root) (sym same)
     (compiled_opens c v given t t.verdict (subst (λ (x : Taken). IsVerdict x t.verdict) schema_is taken.verdict))
 
-work_opens : (c : Call) (v : Typed) (given : IsGivenRoot c v) (t : Taking) → AreTaken c.job c.before.supply t → Opening (work_of c.job t) given.rows given.type given.root
+work_opens : (c : Call) (v : Typed) (given : IsGivenRoot c v) (t : Taking) → AreTaken c.job c.before.supply t → Opening (work_of c.job t) given.typed.rows given.typed.type given.root
 work_opens c v given t taken =
-    subst (λ (w : Work). Opening w given.rows given.type given.root) (sym (ap (λ j. work_of j t) given.job)) (job_opens c v given t (subst (λ (j : Option Job). AreTaken j c.before.supply t) given.job taken))
+    subst (λ (w : Work). Opening w given.typed.rows given.typed.type given.root) (sym (ap (λ j. work_of j t) given.job)) (job_opens c v given t (subst (λ (j : Option Job). AreTaken j c.before.supply t) given.job taken))
 
 -- ---- what it is not
 
@@ -93,43 +93,43 @@ record IsOfTable (P : List Row → TypeNo → List ℕ → Type 0) (rows : List 
   table : IsTable rows
   holds : P rows n id
 
-no_fault : (c : Call) (v : Typed) (given : IsGivenRoot c v) → LetsShow c → (t : Taking) (f : Fault) → AreTaken c.job c.before.supply t → IsDue c t f → f ≡ F.Memory
+no_fault : (c : Call) (v : Typed) (given : IsGivenRoot c v) → IsFaultless c → (t : Taking) (f : Fault) → AreTaken c.job c.before.supply t → IsDue c t f → f ≡ F.Memory
 no_fault c v given calm t F.Memory taken due = refl
-no_fault c v given calm t F.Words taken due = absurd (no_end (work_of c.job t) F.Words given.rows given.type given.root (work_opens c v given t taken) (λ e. cc) due)
-no_fault c v given calm t (F.Schema f) taken due = absurd (no_end (work_of c.job t) (F.Schema f) given.rows given.type given.root (work_opens c v given t taken) (λ e. cc) due)
-no_fault c v given calm t (F.Input role T.Failed) taken due = absurd (calm.inputs due.0)
-no_fault c v given calm t (F.Input role T.Absent) taken due = absurd (no_end (work_of c.job t) (F.Input role T.Absent) given.rows given.type given.root (work_opens c v given t taken) (λ e. cc) due.0)
-no_fault c v given calm t (F.Input role T.Long) taken due = absurd (no_end (work_of c.job t) (F.Input role T.Long) given.rows given.type given.root (work_opens c v given t taken) (λ e. cc) due.0)
+no_fault c v given calm t F.Words taken due = absurd (no_end (work_of c.job t) F.Words given.typed.rows given.typed.type given.root (work_opens c v given t taken) (λ e. cc) due)
+no_fault c v given calm t (F.Schema f) taken due = absurd (no_end (work_of c.job t) (F.Schema f) given.typed.rows given.typed.type given.root (work_opens c v given t taken) (λ e. cc) due)
+no_fault c v given calm t (F.Input role T.Failed) taken due = absurd (calm.calm.inputs due.0)
+no_fault c v given calm t (F.Input role T.Absent) taken due = absurd (no_end (work_of c.job t) (F.Input role T.Absent) given.typed.rows given.typed.type given.root (work_opens c v given t taken) (λ e. cc) due.0)
+no_fault c v given calm t (F.Input role T.Long) taken due = absurd (no_end (work_of c.job t) (F.Input role T.Long) given.typed.rows given.typed.type given.root (work_opens c v given t taken) (λ e. cc) due.0)
 no_fault c v given calm t F.Store taken due = absurd (calm.store due.0)
-no_fault c v given calm t (F.Clash id) taken (inl due) = absurd (no_answers (work_of c.job t) given.rows given.type given.root due.rows due.type due.start due.bytes (work_opens c v given t taken) due.work)
-no_fault c v given calm t (F.Clash id) taken (inr clash) = absurd (no_value (work_of c.job t) clash.rows clash.type clash.bytes given.rows given.type given.root (work_opens c v given t taken) clash.work)
-no_fault c v given calm t (F.Value r) taken (inl due) = absurd (let x = due.1 in no_answers (work_of c.job t) given.rows given.type given.root x.rows x.type x.start x.bytes (work_opens c v given t taken) x.work)
-no_fault c v given calm t (F.Value r) taken (inr due) = absurd (no_value (work_of c.job t) due.rows due.type due.bytes given.rows given.type given.root (work_opens c v given t taken) due.work)
-no_fault c v given calm t (F.Root id why) taken (inl due) = absurd (no_answers (work_of c.job t) given.rows given.type given.root due.rows due.type due.start due.bytes (work_opens c v given t taken) due.work)
+no_fault c v given calm t (F.Clash id) taken (inl due) = absurd (no_answers (work_of c.job t) given.typed.rows given.typed.type given.root due.script.rows due.script.type due.script.start due.script.bytes (work_opens c v given t taken) due.script.work)
+no_fault c v given calm t (F.Clash id) taken (inr clash) = absurd (no_value (work_of c.job t) clash.value.rows clash.value.type clash.value.bytes given.typed.rows given.typed.type given.root (work_opens c v given t taken) clash.value.work)
+no_fault c v given calm t (F.Value r) taken (inl due) = absurd (let x = due.1 in no_answers (work_of c.job t) given.typed.rows given.typed.type given.root x.script.rows x.script.type x.script.start x.script.bytes (work_opens c v given t taken) x.script.work)
+no_fault c v given calm t (F.Value r) taken (inr due) = absurd (no_value (work_of c.job t) due.value.rows due.value.type due.value.bytes given.typed.rows given.typed.type given.root (work_opens c v given t taken) due.value.work)
+no_fault c v given calm t (F.Root id why) taken (inl due) = absurd (no_answers (work_of c.job t) given.typed.rows given.typed.type given.root due.script.rows due.script.type due.script.start due.script.bytes (work_opens c v given t taken) due.script.work)
 no_fault c v given calm t (F.Root id why) taken (inr due) =
     let P : List Row → TypeNo → List ℕ → Type 0 = λ rows n root. NotOpened hash rows n root c.before.moment id.0 why c.after.moment in
-    let it = said P (work_of c.job t) given.rows due.rows given.type due.type given.root due.root (work_opens c v given t taken) due.work due.refused in
-    absurd (none_refused hash given.rows given.type given.root v c.before.moment c.after.moment id.0 why given.held given.store given.stands it)
+    let it = said P (work_of c.job t) given.typed.rows due.opened.rows given.typed.type due.opened.type given.root due.opened.root (work_opens c v given t taken) due.opened.work due.refused in
+    absurd (none_refused hash given.typed.rows given.typed.type given.root v c.before.moment c.after.moment id.0 why given.held given.store given.stands it)
 
 -- the JSON is that of this value's shown form
-same_json : (c : Call) (v : Typed) (given : IsGivenRoot c v) (t : Taking) (json : Option (List ℕ)) → AreTaken c.job c.before.supply t → HasRoot c t json → json_text (shown given.rows (plainly given.type) v) ≡ json
+same_json : (c : Call) (v : Typed) (given : IsGivenRoot c v) (t : Taking) (json : Option (List ℕ)) → AreTaken c.job c.before.supply t → HasRoot c t json → json_text (shown given.typed.rows (plainly given.typed.type) v) ≡ json
 same_json c v given t json taken has =
     let P : List Row → TypeNo → List ℕ → Type 0 = IsOfTable (λ rows n root. HasShown hash rows n root c.after.moment json) in
-    let it = said P (work_of c.job t) given.rows has.rows given.type has.type given.root has.root (work_opens c v given t taken) has.work (record { table = has.table; holds = has.shown }) in
-    shown_stands hash given.rows (record { table = it.table; accepted = given.compiles.accepted }) given.type given.root v c.after.moment json given.held (has.reads.blocks ∙ given.store) given.stands it.holds
+    let it = said P (work_of c.job t) given.typed.rows has.opened.rows given.typed.type has.opened.type given.root has.opened.root (work_opens c v given t taken) has.opened.work (record { table = has.table; holds = has.shown }) in
+    shown_stands hash given.typed.rows (record { table = it.table; accepted = given.typed.schema.compiles.accepted }) given.typed.type given.root v c.after.moment json given.held (has.reads.blocks ∙ given.store) given.stands it.holds
 
-pub shown_by : (c : Call) (v : Typed) (given : IsGivenRoot c v) → LetsShow c → (t : Taking) (status : Status) → AreTaken c.job c.before.supply t → Says c t status → (status ≡ S.Memory) ⊎ ShowsPlainly c given.rows given.type v status
-shown_by c v given calm t S.Done taken (inl all) = absurd (no_answers (work_of c.job t) given.rows given.type given.root all.rows all.type all.start all.bytes (work_opens c v given t taken) all.work)
-shown_by c v given calm t S.Done taken (inr (inl listed)) = absurd (no_list (work_of c.job t) listed.names given.rows given.type given.root (work_opens c v given t taken) listed.work)
-shown_by c v given calm t S.Done taken (inr (inr (inl made))) = absurd (no_value (work_of c.job t) made.rows made.type made.bytes given.rows given.type given.root (work_opens c v given t taken) made.work)
-shown_by c v given calm t S.Done taken (inr (inr (inr (inr told)))) = absurd (other_sort _ _ _ (work_opens c v given t taken) told.work refl refl)
+pub shown_by : (c : Call) (v : Typed) (given : IsGivenRoot c v) → IsFaultless c → (t : Taking) (status : Status) → AreTaken c.job c.before.supply t → Says c t status → (status ≡ S.Memory) ⊎ ShowsPlainly c given.typed.rows given.typed.type v status
+shown_by c v given calm t S.Done taken (inl all) = absurd (no_answers (work_of c.job t) given.typed.rows given.typed.type given.root all.script.rows all.script.type all.script.start all.script.bytes (work_opens c v given t taken) all.script.work)
+shown_by c v given calm t S.Done taken (inr (inl listed)) = absurd (no_list (work_of c.job t) listed.names given.typed.rows given.typed.type given.root (work_opens c v given t taken) listed.work)
+shown_by c v given calm t S.Done taken (inr (inr (inl made))) = absurd (no_value (work_of c.job t) made.value.rows made.value.type made.value.bytes given.typed.rows given.typed.type given.root (work_opens c v given t taken) made.value.work)
+shown_by c v given calm t S.Done taken (inr (inr (inr (inr told)))) = absurd (other_sort _ _ _ (work_opens c v given t taken) told.types.work refl refl)
 shown_by c v given calm t S.Done taken (inr (inr (inr (inl there)))) =
     inr (subst (ShownBy c S.Done) (sym (same_json c v given t (Some there.0) taken there.1.has)) (refl, there.1.written))
-shown_by c v given calm t S.Refused taken (inl all) = absurd (no_answers (work_of c.job t) given.rows given.type given.root all.rows all.type all.start all.bytes (work_opens c v given t taken) all.work)
-shown_by c v given calm t S.Refused taken (inr (inr told)) = absurd (other_sort _ _ _ (work_opens c v given t taken) told.1.work refl refl)
+shown_by c v given calm t S.Refused taken (inl all) = absurd (no_answers (work_of c.job t) given.typed.rows given.typed.type given.root all.script.rows all.script.type all.script.start all.script.bytes (work_opens c v given t taken) all.script.work)
+shown_by c v given calm t S.Refused taken (inr (inr told)) = absurd (other_sort _ _ _ (work_opens c v given t taken) told.1.types.work refl refl)
 shown_by c v given calm t S.Refused taken (inr (inl there)) = inr (subst (ShownBy c S.Refused) (sym (same_json c v given t None taken there.has)) (refl, there.written))
 shown_by c v given calm t S.Memory taken says = inl refl
-shown_by c v given calm t S.SinkFault taken says = absurd (calm.sink says.0)
+shown_by c v given calm t S.SinkFault taken says = absurd (calm.calm.sink says.0)
 shown_by c v given calm t S.Words taken says = absurd (let e = no_fault c v given calm t F.Words taken says.due in cc)
 shown_by c v given calm t S.Schema taken tells = absurd (let e = no_fault c v given calm t (F.Schema tells.0) taken tells.1.due in cc)
 shown_by c v given calm t S.Input taken says = absurd (let e = no_fault c v given calm t (F.Input says.0 says.1) taken says.2.due in cc)

@@ -129,18 +129,18 @@ module _ (c : Call) (tests : Tests) (v : Typed) (script : List ℕ) (given : IsG
   job = runs given.schema_name given.type_name given.start given.script_name
 
   abbrev IsRunning : Work → Type 0
-  IsRunning w = Running w given.rows given.type given.start script
+  IsRunning w = Running w given.typed.rows given.typed.type given.start script
 
-  compiled_runs : (t : Taking) (verdict : Option Verdict) → t.input Role.Script ≡ Taken.Bytes script → IsVerdict (Taken.Bytes given.schema) verdict → IsRunning (compiled_work job verdict t)
+  compiled_runs : (t : Taking) (verdict : Option Verdict) → t.input Role.Script ≡ Taken.Bytes script → IsVerdict (Taken.Bytes given.typed.schema.bytes) verdict → IsRunning (compiled_work job verdict t)
   compiled_runs t None held says = inr refl
   compiled_runs t (Some w) held says =
-      let one : table given.rows ≡ w = one_verdict_lem given.schema (table given.rows) w given.compiles says in
+      let one : table given.typed.rows ≡ w = one_verdict_lem given.typed.schema.bytes (table given.typed.rows) w given.typed.schema.compiles says in
       subst (λ (x : Verdict). IsRunning (compiled_work job (Some x) t)) one
-      (named_runs given.rows given.type given.start script (number_named given.type_name given.rows) (t.input Role.Script) given.named held)
+      (named_runs given.typed.rows given.typed.type given.start script (number_named given.type_name given.typed.rows) (t.input Role.Script) given.typed.named held)
 
   job_runs : (t : Taking) → IsTaking job c.before.supply t → IsRunning (job_work job t)
   job_runs t taken =
-      let schema_is : t.input Role.Schema ≡ Taken.Bytes given.schema = subst (λ (f : Option (List (List ℕ × List ℕ))). MayBe f given.schema_name (t.input Role.Schema)) given.told (taken.input Role.Schema) ∙ given.schema_held in
+      let schema_is : t.input Role.Schema ≡ Taken.Bytes given.typed.schema.bytes = subst (λ (f : Option (List (List ℕ × List ℕ))). MayBe f given.schema_name (t.input Role.Schema)) given.told (taken.input Role.Schema) ∙ given.typed.schema.held in
       let script_is : t.input Role.Script ≡ Taken.Bytes script = subst (λ (f : Option (List (List ℕ × List ℕ))). MayBe f given.script_name (t.input Role.Script)) given.told (taken.input Role.Script) ∙ given.script_held in
       let same : job_work job t ≡ compiled_work job t.verdict t = ap (λ x. schema_work job x t.verdict t) schema_is in
       subst IsRunning (sym same) (compiled_runs t t.verdict script_is (subst (λ (x : Taken). IsVerdict x t.verdict) schema_is taken.verdict))
@@ -148,81 +148,81 @@ module _ (c : Call) (tests : Tests) (v : Typed) (script : List ℕ) (given : IsG
   work_runs : (t : Taking) → AreTaken c.job c.before.supply t → IsRunning (work_of c.job t)
   work_runs t taken = subst IsRunning (sym (ap (λ j. work_of j t) given.job)) (job_runs t (subst (λ (j : Option Job). AreTaken j c.before.supply t) given.job taken))
 
-  module _ (calm : IsUndisturbed c given.rows given.type tests given.start v script) (t : Taking) (taken : AreTaken c.job c.before.supply t) where
+  module _ (calm : IsUndisturbed c given.typed.rows given.typed.type tests given.start v script) (t : Taking) (taken : AreTaken c.job c.before.supply t) where
     here : IsRunning (work_of c.job t)
     here = work_runs t taken
 
     ends_not : (f : Fault) → (f ≡ F.Memory → ⊥) → work_of c.job t ≡ ends f → ⊥
-    ends_not f other work = no_end (work_of c.job t) f given.rows given.type given.start script here other work
+    ends_not f other work = no_end (work_of c.job t) f given.typed.rows given.typed.type given.start script here other work
 
     makes_not : (made : List Row) (m : TypeNo) (bytes : List ℕ) → work_of c.job t ≡ makes made m bytes → ⊥
-    makes_not made m bytes work = no_value (work_of c.job t) made m bytes given.rows given.type given.start script here work
+    makes_not made m bytes work = no_value (work_of c.job t) made m bytes given.typed.rows given.typed.type given.start script here work
 
     opens_not : (opened : List Row) (m : TypeNo) (id : List ℕ) → work_of c.job t ≡ opens opened m id → ⊥
-    opens_not opened m id work = no_root (work_of c.job t) opened m id given.rows given.type given.start script here work
+    opens_not opened m id work = no_root (work_of c.job t) opened m id given.typed.rows given.typed.type given.start script here work
 
     -- no fault but want of memory is due
     no_fault : (f : Fault) → IsDue c t f → f ≡ F.Memory
     no_fault F.Memory due = refl
     no_fault F.Words due = absurd (ends_not F.Words (λ e. cc) due)
     no_fault (F.Schema f) due = absurd (ends_not (F.Schema f) (λ e. cc) due)
-    no_fault (F.Input role T.Failed) due = absurd (calm.inputs due.0)
+    no_fault (F.Input role T.Failed) due = absurd (calm.faultless.calm.inputs due.0)
     no_fault (F.Input role T.Absent) due = absurd (ends_not (F.Input role T.Absent) (λ e. cc) due.0)
     no_fault (F.Input role T.Long) due = absurd (ends_not (F.Input role T.Long) (λ e. cc) due.0)
-    no_fault F.Store due = absurd (calm.store due.0)
+    no_fault F.Store due = absurd (calm.faultless.store due.0)
     no_fault (F.Clash id) (inl due) =
-        let it = said (λ rows n start b. Stops hash rows n start c.before.moment (P.Clash id) c.after.moment) (work_of c.job t) given.rows due.rows given.type due.type given.start due.start script due.bytes here due.work due.stops in
-        absurd (start_apart given.rows given.type tests given.start v script id c.before.moment c.after.moment it calm.apart.held)
-    no_fault (F.Clash id) (inr clash) = absurd (makes_not clash.rows clash.type clash.bytes clash.work)
+        let it = said (λ rows n start b. Stops hash rows n start c.before.moment (P.Clash id) c.after.moment) (work_of c.job t) given.typed.rows due.script.rows given.typed.type due.script.type given.start due.script.start script due.script.bytes here due.script.work due.stops in
+        absurd (start_apart given.typed.rows given.typed.type tests given.start v script id c.before.moment c.after.moment it calm.apart.held)
+    no_fault (F.Clash id) (inr clash) = absurd (makes_not clash.value.rows clash.value.type clash.value.bytes clash.value.work)
     no_fault (F.Value r) (inl due) =
         let x = due.1 in
-        let it = said (λ rows n start b. Stops hash rows n start c.before.moment P.Mismatch c.after.moment) (work_of c.job t) given.rows x.rows given.type x.type given.start x.start script x.bytes here x.work x.stops in
-        absurd (start_empty given.rows given.type given.start v given.held c.before.moment c.after.moment it given.starts)
-    no_fault (F.Value r) (inr due) = absurd (makes_not due.rows due.type due.bytes due.work)
+        let it = said (λ rows n start b. Stops hash rows n start c.before.moment P.Mismatch c.after.moment) (work_of c.job t) given.typed.rows x.script.rows given.typed.type x.script.type given.start x.script.start script x.script.bytes here x.script.work x.stops in
+        absurd (start_empty given.typed.rows given.typed.type given.start v given.held c.before.moment c.after.moment it given.starts)
+    no_fault (F.Value r) (inr due) = absurd (makes_not due.value.rows due.value.type due.value.bytes due.value.work)
     no_fault (F.Root id why) (inl due) =
-        let it = said (λ rows n start b. Stops hash rows n start c.before.moment (P.Block id why) c.after.moment) (work_of c.job t) given.rows due.rows given.type due.type given.start due.start script due.bytes here due.work due.stops in
-        absurd (start_there given.rows given.type given.start v given.held c.before.moment c.after.moment id why given.store it given.starts)
-    no_fault (F.Root id why) (inr due) = absurd (opens_not due.rows due.type due.root due.work)
+        let it = said (λ rows n start b. Stops hash rows n start c.before.moment (P.Block id why) c.after.moment) (work_of c.job t) given.typed.rows due.script.rows given.typed.type due.script.type given.start due.script.start script due.script.bytes here due.script.work due.stops in
+        absurd (start_there given.typed.rows given.typed.type given.start v given.held c.before.moment c.after.moment id why given.store it given.starts)
+    no_fault (F.Root id why) (inr due) = absurd (opens_not due.opened.rows due.opened.type due.opened.root due.opened.work)
 
-    lines_plainly : (status : Status) (refused : Bool) → status ≡ cond refused S.Refused S.Done → IsTable given.rows → ScriptAll given.rows given.type given.start script c.before.moment c.before.output refused c.after.moment c.after.output
-        → AnswersPlainly c given.rows given.type tests v script status
+    lines_plainly : (status : Status) (refused : Bool) → status ≡ cond refused S.Refused S.Done → IsTable given.typed.rows → ScriptAll given.typed.rows given.typed.type given.start script c.before.moment c.before.output refused c.after.moment c.after.output
+        → AnswersPlainly c given.typed.rows given.typed.type tests v script status
     lines_plainly status refused is tabled all =
         let opened = all.answered.opened in
-        let later = asks_later given.rows given.type given.start c.before.moment opened all.answered.asks in
+        let later = asks_later given.typed.rows given.typed.type given.start c.before.moment opened all.answered.asks in
         let told = told_later c.before.moment opened later (is_told c.before.moment.blocks given.held given.store) in
         let some = some_there opened.blocks told in
         let from = all.answered.from some.0 tests some.1 given.tested in
-        let M = lines_on given.rows given.type tests in
-        let same = one_first given.rows (record { table = tabled; accepted = given.compiles.accepted }) given.type given.start v all.answered.block given.held some.0 c.before.moment opened given.store some.1 all.answered.asks from.first given.starts in
+        let M = lines_on given.typed.rows given.typed.type tests in
+        let same = one_first given.typed.rows (record { table = tabled; accepted = given.typed.schema.compiles.accepted }) given.typed.type given.start v all.answered.block given.held some.0 c.before.moment opened given.store some.1 all.answered.asks from.first given.starts in
         let run : Run M opened (resting v) (lines_of script) all.replies c.after.moment from.last = subst (λ (x : Typed). Run M opened (resting x) (lines_of script) all.replies c.after.moment from.last) same from.run in
         let carried = subst (λ (x : Typed). Carries M opened (resting x)) same from.carried in
-        let calm_run : Rose opened.faults c.after.moment.faults → ⊥ = λ rose. calm.store (let r : bumped opened.faults ≤ c.after.moment.faults = rose in let le = later.faults in omega arith) in
+        let calm_run : Rose opened.faults c.after.moment.faults → ⊥ = λ rose. calm.faultless.store (let r : bumped opened.faults ≤ c.after.moment.faults = rose in let le = later.faults in omega arith) in
         record {
           replies = all.replies;
           last = from.last.state;
-          run = plain_lines given.rows given.type tests opened v (lines_of script) all.replies c.after.moment from.last run carried told calm_run
+          run = plain_lines given.typed.rows given.typed.type tests opened v (lines_of script) all.replies c.after.moment from.last run carried told calm_run
               (record { held = λ kept new may. calm.apart.held kept new (inr may); inside = λ begins a b may_a may_b. calm.apart.inside begins a b (inr may_a) (inr may_b) });
           written = all.written;
           status_is = is ∙ ap (λ b. cond b S.Refused S.Done) all.refused_is;
         }
 
-    plainly : (status : Status) (refused : Bool) → status ≡ cond refused S.Refused S.Done → AnswersAll c t refused → AnswersPlainly c given.rows given.type tests v script status
+    plainly : (status : Status) (refused : Bool) → status ≡ cond refused S.Refused S.Done → AnswersAll c t refused → AnswersPlainly c given.typed.rows given.typed.type tests v script status
     plainly status refused is all =
         let Q : List Row → TypeNo → Start → List ℕ → Type 0 = IsOfTable (λ rows n start b. ScriptAll rows n start b c.before.moment c.before.output refused c.after.moment c.after.output) in
-        let it = said Q (work_of c.job t) given.rows all.rows given.type all.type given.start all.start script all.bytes here all.work (record { table = all.table; holds = all.all }) in
+        let it = said Q (work_of c.job t) given.typed.rows all.script.rows given.typed.type all.script.type given.start all.script.start script all.script.bytes here all.script.work (record { table = all.table; holds = all.all }) in
         lines_plainly status refused is it.table it.holds
 
-    pub run_by : (status : Status) → Says c t status → (status ≡ S.Memory) ⊎ AnswersPlainly c given.rows given.type tests v script status
+    pub run_by : (status : Status) → Says c t status → (status ≡ S.Memory) ⊎ AnswersPlainly c given.typed.rows given.typed.type tests v script status
     run_by S.Done (inl all) = inr (plainly S.Done false refl all)
-    run_by S.Done (inr (inl listed)) = absurd (no_list (work_of c.job t) listed.names given.rows given.type given.start script here listed.work)
-    run_by S.Done (inr (inr (inl created))) = absurd (makes_not created.rows created.type created.bytes created.work)
-    run_by S.Done (inr (inr (inr (inr told)))) = absurd (other_sort _ _ _ here told.work refl refl)
-    run_by S.Done (inr (inr (inr (inl shows)))) = absurd (let has = shows.1.has in opens_not has.rows has.type has.root has.work)
+    run_by S.Done (inr (inl listed)) = absurd (no_list (work_of c.job t) listed.names given.typed.rows given.typed.type given.start script here listed.work)
+    run_by S.Done (inr (inr (inl created))) = absurd (makes_not created.value.rows created.value.type created.value.bytes created.value.work)
+    run_by S.Done (inr (inr (inr (inr told)))) = absurd (other_sort _ _ _ here told.types.work refl refl)
+    run_by S.Done (inr (inr (inr (inl shows)))) = absurd (let has = shows.1.has in opens_not has.opened.rows has.opened.type has.opened.root has.opened.work)
     run_by S.Refused (inl all) = inr (plainly S.Refused true refl all)
-    run_by S.Refused (inr (inr told)) = absurd (other_sort _ _ _ here told.1.work refl refl)
-    run_by S.Refused (inr (inl shows)) = absurd (let has = shows.has in opens_not has.rows has.type has.root has.work)
+    run_by S.Refused (inr (inr told)) = absurd (other_sort _ _ _ here told.1.types.work refl refl)
+    run_by S.Refused (inr (inl shows)) = absurd (let has = shows.has in opens_not has.opened.rows has.opened.type has.opened.root has.opened.work)
     run_by S.Memory says = inl refl
-    run_by S.SinkFault says = absurd (calm.sink says.0)
+    run_by S.SinkFault says = absurd (calm.faultless.calm.sink says.0)
     run_by S.Words says = absurd (let e = no_fault F.Words says.due in cc)
     run_by S.Schema says = absurd (let e = no_fault (F.Schema says.0) says.1.due in cc)
     run_by S.Input says = absurd (let e = no_fault (F.Input says.0 says.1) says.2.due in cc)

@@ -45,25 +45,25 @@ abbrev job_in : (c : Call) (v : Typed) (d : Data) → IsGivenValue c v d → Job
 job_in c v d given = creates given.schema_name given.type_name given.value_name
 
 compiled_makes : (c : Call) (v : Typed) (d : Data) (given : IsGivenValue c v d) (t : Taking) (verdict : Option Verdict) → t.input Role.Value ≡ Taken.Bytes given.bytes
-    → IsVerdict (Taken.Bytes given.schema) verdict → Creating (compiled_work (job_in c v d given) verdict t) given.rows given.type given.bytes
+    → IsVerdict (Taken.Bytes given.typed.schema.bytes) verdict → Creating (compiled_work (job_in c v d given) verdict t) given.typed.rows given.typed.type given.bytes
 compiled_makes c v d given t None held says = inr refl
 compiled_makes c v d given t (Some w) held says =
-    let one : table given.rows ≡ w = one_verdict_lem given.schema (table given.rows) w given.compiles says in
-    subst (λ (x : Verdict). Creating (compiled_work (job_in c v d given) (Some x) t) given.rows given.type given.bytes) one
-    (named_makes given.rows given.type given.bytes (number_named given.type_name given.rows) (t.input Role.Value) given.named held)
+    let one : table given.typed.rows ≡ w = one_verdict_lem given.typed.schema.bytes (table given.typed.rows) w given.typed.schema.compiles says in
+    subst (λ (x : Verdict). Creating (compiled_work (job_in c v d given) (Some x) t) given.typed.rows given.typed.type given.bytes) one
+    (named_makes given.typed.rows given.typed.type given.bytes (number_named given.type_name given.typed.rows) (t.input Role.Value) given.typed.named held)
 
-job_makes : (c : Call) (v : Typed) (d : Data) (given : IsGivenValue c v d) (t : Taking) → IsTaking (job_in c v d given) c.before.supply t → Creating (job_work (job_in c v d given) t) given.rows given.type given.bytes
+job_makes : (c : Call) (v : Typed) (d : Data) (given : IsGivenValue c v d) (t : Taking) → IsTaking (job_in c v d given) c.before.supply t → Creating (job_work (job_in c v d given) t) given.typed.rows given.typed.type given.bytes
 job_makes c v d given t taken =
     let job = job_in c v d given in
-    let schema_is : t.input Role.Schema ≡ Taken.Bytes given.schema = subst (λ (f : Option (List (List ℕ × List ℕ))). MayBe f given.schema_name (t.input Role.Schema)) given.told (taken.input Role.Schema) ∙ given.schema_held in
+    let schema_is : t.input Role.Schema ≡ Taken.Bytes given.typed.schema.bytes = subst (λ (f : Option (List (List ℕ × List ℕ))). MayBe f given.schema_name (t.input Role.Schema)) given.told (taken.input Role.Schema) ∙ given.typed.schema.held in
     let value_is : t.input Role.Value ≡ Taken.Bytes given.bytes = subst (λ (f : Option (List (List ℕ × List ℕ))). MayBe f given.value_name (t.input Role.Value)) given.told (taken.input Role.Value) ∙ given.value_held in
     let same : job_work job t ≡ compiled_work job t.verdict t = ap (λ x. schema_work job x t.verdict t) schema_is in
-    subst (λ (w : Work). Creating w given.rows given.type given.bytes) (sym same)
+    subst (λ (w : Work). Creating w given.typed.rows given.typed.type given.bytes) (sym same)
     (compiled_makes c v d given t t.verdict value_is (subst (λ (x : Taken). IsVerdict x t.verdict) schema_is taken.verdict))
 
-work_makes : (c : Call) (v : Typed) (d : Data) (given : IsGivenValue c v d) (t : Taking) → AreTaken c.job c.before.supply t → Creating (work_of c.job t) given.rows given.type given.bytes
+work_makes : (c : Call) (v : Typed) (d : Data) (given : IsGivenValue c v d) (t : Taking) → AreTaken c.job c.before.supply t → Creating (work_of c.job t) given.typed.rows given.typed.type given.bytes
 work_makes c v d given t taken =
-    subst (λ (w : Work). Creating w given.rows given.type given.bytes) (sym (ap (λ j. work_of j t) given.job)) (job_makes c v d given t (subst (λ (j : Option Job). AreTaken j c.before.supply t) given.job taken))
+    subst (λ (w : Work). Creating w given.typed.rows given.typed.type given.bytes) (sym (ap (λ j. work_of j t) given.job)) (job_makes c v d given t (subst (λ (j : Option Job). AreTaken j c.before.supply t) given.job taken))
 
 -- ---- what it is not
 
@@ -103,60 +103,60 @@ record IsOfTable (P : List Row → TypeNo → List ℕ → Type 0) (rows : List 
   table : IsTable rows
   holds : P rows n b
 
-no_fault : (c : Call) (v : Typed) (d : Data) (given : IsGivenValue c v d) → LetsCreate c given.rows given.type v d → (t : Taking) (f : Fault) → AreTaken c.job c.before.supply t → IsDue c t f → f ≡ F.Memory
+no_fault : (c : Call) (v : Typed) (d : Data) (given : IsGivenValue c v d) → LetsCreate c given.typed.rows given.typed.type v d → (t : Taking) (f : Fault) → AreTaken c.job c.before.supply t → IsDue c t f → f ≡ F.Memory
 no_fault c v d given calm t F.Memory taken due = refl
-no_fault c v d given calm t F.Words taken due = absurd (no_end (work_of c.job t) F.Words given.rows given.type given.bytes (work_makes c v d given t taken) (λ e. cc) due)
-no_fault c v d given calm t (F.Schema f) taken due = absurd (no_end (work_of c.job t) (F.Schema f) given.rows given.type given.bytes (work_makes c v d given t taken) (λ e. cc) due)
-no_fault c v d given calm t (F.Input role T.Failed) taken due = absurd (calm.inputs due.0)
-no_fault c v d given calm t (F.Input role T.Absent) taken due = absurd (no_end (work_of c.job t) (F.Input role T.Absent) given.rows given.type given.bytes (work_makes c v d given t taken) (λ e. cc) due.0)
-no_fault c v d given calm t (F.Input role T.Long) taken due = absurd (no_end (work_of c.job t) (F.Input role T.Long) given.rows given.type given.bytes (work_makes c v d given t taken) (λ e. cc) due.0)
-no_fault c v d given calm t F.Store taken due = absurd (calm.store due.0)
-no_fault c v d given calm t (F.Clash id) taken (inl due) = absurd (no_answers (work_of c.job t) given.rows given.type given.bytes due.rows due.type due.start due.bytes (work_makes c v d given t taken) due.work)
+no_fault c v d given calm t F.Words taken due = absurd (no_end (work_of c.job t) F.Words given.typed.rows given.typed.type given.bytes (work_makes c v d given t taken) (λ e. cc) due)
+no_fault c v d given calm t (F.Schema f) taken due = absurd (no_end (work_of c.job t) (F.Schema f) given.typed.rows given.typed.type given.bytes (work_makes c v d given t taken) (λ e. cc) due)
+no_fault c v d given calm t (F.Input role T.Failed) taken due = absurd (calm.faultless.calm.inputs due.0)
+no_fault c v d given calm t (F.Input role T.Absent) taken due = absurd (no_end (work_of c.job t) (F.Input role T.Absent) given.typed.rows given.typed.type given.bytes (work_makes c v d given t taken) (λ e. cc) due.0)
+no_fault c v d given calm t (F.Input role T.Long) taken due = absurd (no_end (work_of c.job t) (F.Input role T.Long) given.typed.rows given.typed.type given.bytes (work_makes c v d given t taken) (λ e. cc) due.0)
+no_fault c v d given calm t F.Store taken due = absurd (calm.faultless.store due.0)
+no_fault c v d given calm t (F.Clash id) taken (inl due) = absurd (no_answers (work_of c.job t) given.typed.rows given.typed.type given.bytes due.script.rows due.script.type due.script.start due.script.bytes (work_makes c v d given t taken) due.script.work)
 no_fault c v d given calm t (F.Clash id) taken (inr clash) =
     let P : List Row → TypeNo → List ℕ → Type 0 = IsOfTable (λ rows n b. Clashes hash rows n b c.before.moment c.after.moment id.0) in
-    let it = said P (work_of c.job t) given.rows clash.rows given.type clash.type given.bytes clash.bytes (work_makes c v d given t taken) clash.work (record { table = clash.table; holds = clash.clash }) in
+    let it = said P (work_of c.job t) given.typed.rows clash.value.rows given.typed.type clash.value.type given.bytes clash.value.bytes (work_makes c v d given t taken) clash.value.work (record { table = clash.table; holds = clash.clash }) in
     let tried = it.holds.tried in
-    let same = one_made hash given.rows (record { table = it.table; accepted = given.compiles.accepted }) given.type given.bytes tried.value v tried.tree d tried.makes given.makes in
+    let same = one_made hash given.typed.rows (record { table = it.table; accepted = given.typed.schema.compiles.accepted }) given.typed.type given.bytes tried.value v tried.tree d tried.makes given.makes in
     let hit = it.holds.hit in
-    let among : Contains (blocks_of bare hash given.rows given.type v d) hit.new =
-    subst (λ (x : Typed). Contains (blocks_of bare hash given.rows given.type x d) hit.new) same.0
-    (subst (λ (x : Data). Contains (blocks_of bare hash given.rows given.type tried.value x) hit.new) same.1 hit.among) in
+    let among : Contains (blocks_of bare hash given.typed.rows given.typed.type v d) hit.new =
+    subst (λ (x : Typed). Contains (blocks_of bare hash given.typed.rows given.typed.type x d) hit.new) same.0
+    (subst (λ (x : Data). Contains (blocks_of bare hash given.typed.rows given.typed.type tried.value x) hit.new) same.1 hit.among) in
     absurd (calm.apart hit.kept hit.new among hit.held hit.collide)
-no_fault c v d given calm t (F.Root id why) taken (inl due) = absurd (no_answers (work_of c.job t) given.rows given.type given.bytes due.rows due.type due.start due.bytes (work_makes c v d given t taken) due.work)
-no_fault c v d given calm t (F.Root id why) taken (inr due) = absurd (no_root (work_of c.job t) due.rows due.type due.root given.rows given.type given.bytes (work_makes c v d given t taken) due.work)
-no_fault c v d given calm t (F.Value r) taken (inl due) = absurd (let x = due.1 in no_answers (work_of c.job t) given.rows given.type given.bytes x.rows x.type x.start x.bytes (work_makes c v d given t taken) x.work)
+no_fault c v d given calm t (F.Root id why) taken (inl due) = absurd (no_answers (work_of c.job t) given.typed.rows given.typed.type given.bytes due.script.rows due.script.type due.script.start due.script.bytes (work_makes c v d given t taken) due.script.work)
+no_fault c v d given calm t (F.Root id why) taken (inr due) = absurd (no_root (work_of c.job t) due.opened.rows due.opened.type due.opened.root given.typed.rows given.typed.type given.bytes (work_makes c v d given t taken) due.opened.work)
+no_fault c v d given calm t (F.Value r) taken (inl due) = absurd (let x = due.1 in no_answers (work_of c.job t) given.typed.rows given.typed.type given.bytes x.script.rows x.script.type x.script.start x.script.bytes (work_makes c v d given t taken) x.script.work)
 no_fault c v d given calm t (F.Value r) taken (inr due) =
     let P : List Row → TypeNo → List ℕ → Type 0 = IsOfTable (λ rows n b. IsFirst hash rows n b r) in
-    let it = said P (work_of c.job t) given.rows due.rows given.type due.type given.bytes due.bytes (work_makes c v d given t taken) due.work (record { table = due.table; holds = due.refused }) in
-    absurd (made_unrefused hash given.rows (record { table = it.table; accepted = given.compiles.accepted }) given.type given.bytes v d r given.makes it.holds.cause)
+    let it = said P (work_of c.job t) given.typed.rows due.value.rows given.typed.type due.value.type given.bytes due.value.bytes (work_makes c v d given t taken) due.value.work (record { table = due.table; holds = due.refused }) in
+    absurd (made_unrefused hash given.typed.rows (record { table = it.table; accepted = given.typed.schema.compiles.accepted }) given.typed.type given.bytes v d r given.makes it.holds.cause)
 
-created_so : (c : Call) (v : Typed) (d : Data) (given : IsGivenValue c v d) (t : Taking) → AreTaken c.job c.before.supply t → CreatesValue c t → CreatesPlainly c given.rows given.type v d S.Done
+created_so : (c : Call) (v : Typed) (d : Data) (given : IsGivenValue c v d) (t : Taking) → AreTaken c.job c.before.supply t → CreatesValue c t → CreatesPlainly c given.typed.rows given.typed.type v d S.Done
 created_so c v d given t taken made =
     let P : List Row → TypeNo → List ℕ → Type 0 = IsOfTable (λ rows n b. Created hash rows n b c.before.moment c.after.moment made.root.0) in
-    let it = said P (work_of c.job t) given.rows made.rows given.type made.type given.bytes made.bytes (work_makes c v d given t taken) made.work (record { table = made.table; holds = made.created }) in
+    let it = said P (work_of c.job t) given.typed.rows made.value.rows given.typed.type made.value.type given.bytes made.value.bytes (work_makes c v d given t taken) made.value.work (record { table = made.table; holds = made.created }) in
     let tried = it.holds.tried in
-    let same = one_made hash given.rows (record { table = it.table; accepted = given.compiles.accepted }) given.type given.bytes tried.value v tried.tree d tried.makes given.makes in
+    let same = one_made hash given.typed.rows (record { table = it.table; accepted = given.typed.schema.compiles.accepted }) given.typed.type given.bytes tried.value v tried.tree d tried.makes given.makes in
     record {
       status_is = refl;
       root = made.root;
       root_is = it.holds.root ∙ ap (λ (x : Data). root_id bare x) same.1;
-      stands = subst (λ (x : Typed). IfTold c.after.moment.blocks (λ held. Stands bare (block_at held) hash given.rows given.type made.root.0 x)) same.0 it.holds.stands;
+      stands = subst (λ (x : Typed). IfTold c.after.moment.blocks (λ held. Stands bare (block_at held) hash given.typed.rows given.typed.type made.root.0 x)) same.0 it.holds.stands;
       written = made.written;
     }
 
-pub created_by : (c : Call) (v : Typed) (d : Data) (given : IsGivenValue c v d) → LetsCreate c given.rows given.type v d → (t : Taking) (status : Status) → AreTaken c.job c.before.supply t → Says c t status → (status ≡ S.Memory) ⊎ CreatesPlainly c given.rows given.type v d status
-created_by c v d given calm t S.Done taken (inl all) = absurd (no_answers (work_of c.job t) given.rows given.type given.bytes all.rows all.type all.start all.bytes (work_makes c v d given t taken) all.work)
-created_by c v d given calm t S.Done taken (inr (inl listed)) = absurd (no_list (work_of c.job t) listed.names given.rows given.type given.bytes (work_makes c v d given t taken) listed.work)
+pub created_by : (c : Call) (v : Typed) (d : Data) (given : IsGivenValue c v d) → LetsCreate c given.typed.rows given.typed.type v d → (t : Taking) (status : Status) → AreTaken c.job c.before.supply t → Says c t status → (status ≡ S.Memory) ⊎ CreatesPlainly c given.typed.rows given.typed.type v d status
+created_by c v d given calm t S.Done taken (inl all) = absurd (no_answers (work_of c.job t) given.typed.rows given.typed.type given.bytes all.script.rows all.script.type all.script.start all.script.bytes (work_makes c v d given t taken) all.script.work)
+created_by c v d given calm t S.Done taken (inr (inl listed)) = absurd (no_list (work_of c.job t) listed.names given.typed.rows given.typed.type given.bytes (work_makes c v d given t taken) listed.work)
 created_by c v d given calm t S.Done taken (inr (inr (inl made))) = inr (created_so c v d given t taken made)
-created_by c v d given calm t S.Done taken (inr (inr (inr (inr told)))) = absurd (other_sort _ _ _ (work_makes c v d given t taken) told.work refl refl)
+created_by c v d given calm t S.Done taken (inr (inr (inr (inr told)))) = absurd (other_sort _ _ _ (work_makes c v d given t taken) told.types.work refl refl)
 created_by c v d given calm t S.Done taken (inr (inr (inr (inl shows)))) =
-    absurd (let has = shows.1.has in no_root (work_of c.job t) has.rows has.type has.root given.rows given.type given.bytes (work_makes c v d given t taken) has.work)
-created_by c v d given calm t S.Refused taken (inl all) = absurd (no_answers (work_of c.job t) given.rows given.type given.bytes all.rows all.type all.start all.bytes (work_makes c v d given t taken) all.work)
-created_by c v d given calm t S.Refused taken (inr (inr told)) = absurd (other_sort _ _ _ (work_makes c v d given t taken) told.1.work refl refl)
+    absurd (let has = shows.1.has in no_root (work_of c.job t) has.opened.rows has.opened.type has.opened.root given.typed.rows given.typed.type given.bytes (work_makes c v d given t taken) has.opened.work)
+created_by c v d given calm t S.Refused taken (inl all) = absurd (no_answers (work_of c.job t) given.typed.rows given.typed.type given.bytes all.script.rows all.script.type all.script.start all.script.bytes (work_makes c v d given t taken) all.script.work)
+created_by c v d given calm t S.Refused taken (inr (inr told)) = absurd (other_sort _ _ _ (work_makes c v d given t taken) told.1.types.work refl refl)
 created_by c v d given calm t S.Refused taken (inr (inl shows)) =
-    absurd (let has = shows.has in no_root (work_of c.job t) has.rows has.type has.root given.rows given.type given.bytes (work_makes c v d given t taken) has.work)
+    absurd (let has = shows.has in no_root (work_of c.job t) has.opened.rows has.opened.type has.opened.root given.typed.rows given.typed.type given.bytes (work_makes c v d given t taken) has.opened.work)
 created_by c v d given calm t S.Memory taken says = inl refl
-created_by c v d given calm t S.SinkFault taken says = absurd (calm.sink says.0)
+created_by c v d given calm t S.SinkFault taken says = absurd (calm.faultless.calm.sink says.0)
 created_by c v d given calm t S.Words taken says = absurd (let e = no_fault c v d given calm t F.Words taken says.due in cc)
 created_by c v d given calm t S.Schema taken tells = absurd (let e = no_fault c v d given calm t (F.Schema tells.0) taken tells.1.due in cc)
 created_by c v d given calm t S.Input taken says = absurd (let e = no_fault c v d given calm t (F.Input says.0 says.1) taken says.2.due in cc)

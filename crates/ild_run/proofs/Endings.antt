@@ -164,27 +164,27 @@ says_root c t S.StoreFault some rose = absurd rose
 says_root c t S.Value some rose = absurd rose
 
 due_made : (c : Call) (t : Taking) (rows : List Row) (n : TypeNo) (b : List ℕ) (f : CreateFault) → work_of c.job t ≡ makes rows n b → IsTable rows → CreateAnswer hash rows n b c.before.moment (Err f) c.after.moment → IsDue c t (made_fault f)
-due_made c t rows n b (V.Refused r) work table answer = inr (record { rows = rows; table = table; type = n; bytes = b; work = work; refused = answer.0 })
-due_made c t rows n b V.Store work table answer = (answer.0, inr (inl (record { rows = rows; type = n; bytes = b; work = work; tried = answer.1 })))
-due_made c t rows n b (V.Clash id) work table answer = inr (record { rows = rows; table = table; type = n; bytes = b; work = work; clash = answer })
+due_made c t rows n b (V.Refused r) work table answer = inr (record { value = record { rows = rows; type = n; bytes = b; work = work }; table = table; refused = answer.0 })
+due_made c t rows n b V.Store work table answer = (answer.0, inr (inl (record { value = record { rows = rows; type = n; bytes = b; work = work }; tried = answer.1 })))
+due_made c t rows n b (V.Clash id) work table answer = inr (record { value = record { rows = rows; type = n; bytes = b; work = work }; table = table; clash = answer })
 due_made c t rows n b V.Memory work table answer = tt
 
 leaves_made : (c : Call) (t : Taking) (rows : List Row) (n : TypeNo) (b : List ℕ) (f : CreateFault) → work_of c.job t ≡ makes rows n b → IsTable rows → CreateAnswer hash rows n b c.before.moment (Err f) c.after.moment → Leaves c t (made_fault f)
 leaves_made c t rows n b (V.Refused r) work table answer = answer.1
-leaves_made c t rows n b V.Store work table answer = inr (inl (record { rows = rows; type = n; bytes = b; work = work; tried = answer.1 }))
+leaves_made c t rows n b V.Store work table answer = inr (inl (record { value = record { rows = rows; type = n; bytes = b; work = work }; tried = answer.1 }))
 leaves_made c t rows n b (V.Clash id) work table answer =
-    inr (record { rows = rows; type = n; bytes = b; work = work; tried = answer.tried })
+    inr (record { value = record { rows = rows; type = n; bytes = b; work = work }; tried = answer.tried })
 leaves_made c t rows n b V.Memory work table answer = by answer where
   by : CreateAnswer hash rows n b c.before.moment (Err V.Memory) c.after.moment → Leaves c t F.Memory
   by (inl same) = inl same
-  by (inr tried) = inr (inr (inl (record { rows = rows; type = n; bytes = b; work = work; tried = tried })))
+  by (inr tried) = inr (inr (inl (record { value = record { rows = rows; type = n; bytes = b; work = work }; tried = tried })))
 
 says_made : (c : Call) (t : Taking) (rows : List Row) (n : TypeNo) (b : List ℕ) (result : Result BlockId CreateFault) (status : Status) → work_of c.job t ≡ makes rows n b → IsTable rows
     → CreateAnswer hash rows n b c.before.moment result c.after.moment → MadeTold result c.before.output status c.after.output → Says c t status
 says_made c t rows n b (Ok id) status work table answer (inl done) =
-    subst (λ (s : Status). Says c t s) (sym done.0) (inr (inr (inl (record { rows = rows; table = table; type = n; bytes = b; work = work; root = id; created = answer; written = done.1 }))))
+    subst (λ (s : Status). Says c t s) (sym done.0) (inr (inr (inl (record { value = record { rows = rows; type = n; bytes = b; work = work }; table = table; root = id; created = answer; written = done.1 }))))
 says_made c t rows n b (Ok id) status work table answer (inr cut) =
-    says_root c t status (record { rows = rows; type = n; bytes = b; work = work; root = id; created = answer; written = cut.1 }) cut.0
+    says_root c t status (record { value = record { rows = rows; type = n; bytes = b; work = work }; root = id; created = answer; written = cut.1 }) cut.0
 says_made c t rows n b (Err f) status work table answer told =
     says_by c t (made_fault f) status (due_made c t rows n b f work table answer) (leaves_made c t rows n b f work table answer) told.told
 
@@ -222,16 +222,16 @@ says_reserved c t status has (inr cut) = says_shown c t status (record { json = 
 says_present : (c : Call) (t : Taking) (rows : List Row) (n : TypeNo) (id : List ℕ) (result : Result (List ℕ) ShowFault) (status : Status) → work_of c.job t ≡ opens rows n id → IsTable rows
     → Shows hash rows n id c.before.moment result c.after.moment → ShownTold result c.before.output status c.after.output → Says c t status
 says_present c t rows n id (Ok json) status work table shows told =
-    says_json c t json status (record { rows = rows; table = table; type = n; root = id; work = work; shown = shows.answer; reads = shows.reads; gets = shows.gets }) told
+    says_json c t json status (record { opened = record { rows = rows; type = n; root = id; work = work }; table = table; shown = shows.answer; reads = shows.reads; gets = shows.gets }) told
 says_present c t rows n id (Err W.Reserved) status work table shows told =
-    says_reserved c t status (record { rows = rows; table = table; type = n; root = id; work = work; shown = shows.answer; reads = shows.reads; gets = shows.gets }) told
+    says_reserved c t status (record { opened = record { rows = rows; type = n; root = id; work = work }; table = table; shown = shows.answer; reads = shows.reads; gets = shows.gets }) told
 says_present c t rows n id (Err (W.Block at why)) status work table shows told =
-    says_by c t (F.Root at why) status (inr (record { rows = rows; table = table; type = n; root = id; work = work; refused = shows.answer })) (inr (record { rows = rows; type = n; root = id; work = work; reads = shows.reads })) told.told
+    says_by c t (F.Root at why) status (inr (record { opened = record { rows = rows; type = n; root = id; work = work }; table = table; refused = shows.answer })) (inr (record { opened = record { rows = rows; type = n; root = id; work = work }; reads = shows.reads })) told.told
 says_present c t rows n id (Err W.Store) status work table shows told =
-    let reads : ReadsRoot c t = record { rows = rows; type = n; root = id; work = work; reads = shows.reads } in
+    let reads : ReadsRoot c t = record { opened = record { rows = rows; type = n; root = id; work = work }; reads = shows.reads } in
     says_by c t F.Store status (shows.answer, inr (inr reads)) (inr (inr reads)) told.told
 says_present c t rows n id (Err W.Memory) status work table shows told =
-    says_by c t F.Memory status tt (inr (inr (inr (record { rows = rows; type = n; root = id; work = work; reads = shows.reads })))) told.told
+    says_by c t F.Memory status tt (inr (inr (inr (record { opened = record { rows = rows; type = n; root = id; work = work }; reads = shows.reads })))) told.told
 
 pub ended_shown : (c : Call) (job : Job) (t : Taking) (rows : List Row) (n : TypeNo) (id : List ℕ) (status : Status) → c.job ≡ Some job → IsTaking job c.before.supply t → job_work job t ≡ opens rows n id
     → ShownAs rows n id c.before.moment c.before.output status c.after.moment c.after.output → Ended c status
@@ -253,10 +253,10 @@ mismatch_same rows n B.Empty m k stops = stops.1
 
 module _ (c : Call) (t : Taking) (rows : List Row) (n : TypeNo) (start : Start) (b : List ℕ) (work : work_of c.job t ≡ answers rows n start b) (table : IsTable rows) where
   asked : Asks hash rows n start c.before.moment c.after.moment → AsksScript c t
-  asked asks = record { rows = rows; type = n; start = start; bytes = b; work = work; asks = asks }
+  asked asks = record { script = record { rows = rows; type = n; start = start; bytes = b; work = work }; asks = asks }
 
   stopped : (f : StartFault) → Stops hash rows n start c.before.moment f c.after.moment → StopsScript c t f
-  stopped f stops = record { rows = rows; table = table; type = n; start = start; bytes = b; work = work; stops = stops }
+  stopped f stops = record { script = record { rows = rows; type = n; start = start; bytes = b; work = work }; table = table; stops = stops }
 
   due_started : (f : StartFault) → Stops hash rows n start c.before.moment f c.after.moment → Asks hash rows n start c.before.moment c.after.moment → IsDue c t (start_fault f)
   due_started (P.Block id why) stops asks = inl (stopped (P.Block id why) stops)
@@ -274,23 +274,15 @@ module _ (c : Call) (t : Taking) (rows : List Row) (n : TypeNo) (start : Start) 
 
   all_of : (refused : Bool) (behind : Output) → c.after.output ≡ behind → ScriptAll rows n start b c.before.moment c.before.output refused c.after.moment behind → AnswersAll c t refused
   all_of refused behind same all = record {
-    rows = rows;
+    script = record { rows = rows; type = n; start = start; bytes = b; work = work };
     table = table;
-    type = n;
-    start = start;
-    bytes = b;
-    work = work;
     all = subst (λ (o : Output). ScriptAll rows n start b c.before.moment c.before.output refused c.after.moment o) (sym same) all;
   }
 
   some_of : (behind : Output) → c.after.output ≡ behind → ScriptSome rows n start b c.before.moment c.before.output c.after.moment behind → AnswersSome c t
   some_of behind same some = record {
-    rows = rows;
+    script = record { rows = rows; type = n; start = start; bytes = b; work = work };
     table = table;
-    type = n;
-    start = start;
-    bytes = b;
-    work = work;
     some = subst (λ (o : Output). ScriptSome rows n start b c.before.moment c.before.output c.after.moment o) (sym same) some;
   }
 

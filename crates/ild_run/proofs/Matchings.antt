@@ -42,23 +42,13 @@ other_sort w a b (inr is) work other some = false≢true (sym some ∙ ap (λ x.
 module _ (c : Call) (t : Taking) (rows others : List Row) (m n : TypeNo) (work : work_of c.job t ≡ matches rows others m n) (same : c.after.moment ≡ c.before.moment) where
   told_of : (found : Option Differ) (behind : Output) → c.after.output ≡ behind → IsTold rows others m n found c.before.output behind → MatchesTypes c t found
   told_of found behind is told = record {
-    rows = rows;
-    others = others;
-    type = m;
-    later = n;
-    work = work;
-    same = same;
+    types = record { rows = rows; others = others; type = m; later = n; work = work; same = same };
     told = subst (λ (o : Output). IsTold rows others m n found c.before.output o) (sym is) told;
   }
 
   some_of : (behind : Output) → c.after.output ≡ behind → IsCutOff rows others m n c.before.output behind → MatchesSome c t
   some_of behind is cut = record {
-    rows = rows;
-    others = others;
-    type = m;
-    later = n;
-    work = work;
-    same = same;
+    types = record { rows = rows; others = others; type = m; later = n; work = work; same = same };
     told = subst (λ (o : Output). IsCutOff rows others m n c.before.output o) (sym is) cut;
   }
 

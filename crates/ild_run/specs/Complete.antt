@@ -39,6 +39,33 @@ use Rattle.ild_run.specs.Ended.{Call}
 use Rattle.ild_run.specs.declared.status.Status.{Status}
 use Rattle.ild_run.specs.declared.status.Status.TheVariants as S
 
+-- ---- what a call is given, and what leaves it in peace
+
+-- the file with this name is a schema that is accepted, whose types these are
+pub record HasSchema (files : List (List ℕ × List ℕ)) (name : List ℕ) (rows : List Row) : Type 0 where
+  pub bytes : List ℕ
+  pub held : taken_of (file_at files name) ≡ Taken.Bytes bytes
+  pub compiles : Compiles bytes (table rows)
+
+-- and it has a type with this name
+pub record HasType (files : List (List ℕ × List ℕ)) (schema_name type_name : List ℕ) : Type 0 where
+  pub rows : List Row
+  pub schema : HasSchema files schema_name rows
+  pub type : TypeNo
+  pub named : number_named type_name rows ≡ Some type.0
+
+-- no count of faults of the inputs and the sink rose
+pub record IsCalm (c : Call) : Type 0 where
+  pub inputs : Rose c.before.supply.faults c.after.supply.faults → ⊥
+  pub sink : Rose c.before.output.faults c.after.output.faults → ⊥
+
+-- nor one of the store
+pub record IsFaultless (c : Call) : Type 0 where
+  pub calm : IsCalm c
+  pub store : Rose c.before.moment.faults c.after.moment.faults → ⊥
+
+-- ---- a script
+
 -- the words ask for a run; the inputs tell and hold what they name; the schema is accepted, has the type, and these are tests of it; and the
 -- script starts from this value, which stands under the root in a store that tells what it holds, or is the empty one
 pub record IsGiven (c : Call) (tests : Tests) (v : Typed) (script : List ℕ) : Type 0 where
@@ -49,23 +76,16 @@ pub record IsGiven (c : Call) (tests : Tests) (v : Typed) (script : List ℕ) : 
   pub job : c.job ≡ Some (runs schema_name type_name start script_name)
   pub files : List (List ℕ × List ℕ)
   pub told : c.before.supply.files ≡ Some files
-  pub schema : List ℕ
-  pub schema_held : taken_of (file_at files schema_name) ≡ Taken.Bytes schema
-  pub rows : List Row
-  pub compiles : Compiles schema (table rows)
-  pub tested : AreTests rows tests
-  pub type : TypeNo
-  pub named : number_named type_name rows ≡ Some type.0
+  pub typed : HasType files schema_name type_name
+  pub tested : AreTests typed.rows tests
   pub script_held : taken_of (file_at files script_name) ≡ Taken.Bytes script
   pub held : List (List ℕ)
   pub store : c.before.moment.blocks ≡ Some held
-  pub starts : StartsAt rows type start held v
+  pub starts : StartsAt typed.rows typed.type start held v
 
 -- no count of faults rose, and no block that may come collides with one that the store holds, or, where a batch may be begun, with another of them
 pub record IsUndisturbed (c : Call) (rows : List Row) (n : TypeNo) (tests : Tests) (start : Start) (v : Typed) (script : List ℕ) : Type 0 where
-  pub inputs : Rose c.before.supply.faults c.after.supply.faults → ⊥
-  pub store : Rose c.before.moment.faults c.after.moment.faults → ⊥
-  pub sink : Rose c.before.output.faults c.after.output.faults → ⊥
+  pub faultless : IsFaultless c
   pub apart : AreAllApart c.after.moment (MayBatch rows n tests v script) (MayCome rows n tests start v script)
 
 -- every line of the script was answered as on the plain value, or `no 14 memory`, and all replies were written
@@ -82,14 +102,7 @@ pub record IsGivenSchema (c : Call) (rows : List Row) : Type 0 where
   pub job : c.job ≡ Some (checks schema_name)
   pub files : List (List ℕ × List ℕ)
   pub told : c.before.supply.files ≡ Some files
-  pub schema : List ℕ
-  pub schema_held : taken_of (file_at files schema_name) ≡ Taken.Bytes schema
-  pub compiles : Compiles schema (table rows)
-
--- no count of faults of the inputs and the sink rose
-pub record IsCalm (c : Call) : Type 0 where
-  pub inputs : Rose c.before.supply.faults c.after.supply.faults → ⊥
-  pub sink : Rose c.before.output.faults c.after.output.faults → ⊥
+  pub schema : HasSchema files schema_name rows
 
 -- the words ask for a new value; the inputs tell and hold what they name; the schema has its type; and the value's input makes this value
 -- of it, which these data represent
@@ -100,21 +113,14 @@ pub record IsGivenValue (c : Call) (v : Typed) (d : Data) : Type 0 where
   pub job : c.job ≡ Some (creates schema_name type_name value_name)
   pub files : List (List ℕ × List ℕ)
   pub told : c.before.supply.files ≡ Some files
-  pub schema : List ℕ
-  pub schema_held : taken_of (file_at files schema_name) ≡ Taken.Bytes schema
-  pub rows : List Row
-  pub compiles : Compiles schema (table rows)
-  pub type : TypeNo
-  pub named : number_named type_name rows ≡ Some type.0
+  pub typed : HasType files schema_name type_name
   pub bytes : List ℕ
   pub value_held : taken_of (file_at files value_name) ≡ Taken.Bytes bytes
-  pub makes : Makes hash rows type bytes v d
+  pub makes : Makes hash typed.rows typed.type bytes v d
 
 -- no count of faults rose, and no block of the value collides with one that the store holds
 pub record LetsCreate (c : Call) (rows : List Row) (n : TypeNo) (v : Typed) (d : Data) : Type 0 where
-  pub inputs : Rose c.before.supply.faults c.after.supply.faults → ⊥
-  pub store : Rose c.before.moment.faults c.after.moment.faults → ⊥
-  pub sink : Rose c.before.output.faults c.after.output.faults → ⊥
+  pub faultless : IsFaultless c
   pub apart : AreApart c.after.moment (Contains (typed_blocks bare hash rows n v d))
 
 -- the value stands in the store under the root of these data, and the line of the root was written
@@ -134,21 +140,10 @@ pub record IsGivenRoot (c : Call) (v : Typed) : Type 0 where
   pub job : c.job ≡ Some (shows schema_name type_name root)
   pub files : List (List ℕ × List ℕ)
   pub told : c.before.supply.files ≡ Some files
-  pub schema : List ℕ
-  pub schema_held : taken_of (file_at files schema_name) ≡ Taken.Bytes schema
-  pub rows : List Row
-  pub compiles : Compiles schema (table rows)
-  pub type : TypeNo
-  pub named : number_named type_name rows ≡ Some type.0
+  pub typed : HasType files schema_name type_name
   pub held : List (List ℕ)
   pub store : c.before.moment.blocks ≡ Some held
-  pub stands : Stands bare (block_at held) hash rows type root v
-
--- no count of faults rose
-pub record LetsShow (c : Call) : Type 0 where
-  pub inputs : Rose c.before.supply.faults c.after.supply.faults → ⊥
-  pub store : Rose c.before.moment.faults c.after.moment.faults → ⊥
-  pub sink : Rose c.before.output.faults c.after.output.faults → ⊥
+  pub stands : Stands bare (block_at held) hash typed.rows typed.type root v
 
 -- the JSON of the value's shown form was written, or `no 10 reserved`, where it has none since a map whose only key is `/` stands in it
 abbrev pub ShownBy : Call → Status → Option (List ℕ) → Type 0
@@ -166,18 +161,8 @@ pub record IsGivenPair (c : Call) : Type 0 where
   pub job : c.job ≡ Some (compares schema_name next_name type_name)
   pub files : List (List ℕ × List ℕ)
   pub told : c.before.supply.files ≡ Some files
-  pub schema : List ℕ
-  pub schema_held : taken_of (file_at files schema_name) ≡ Taken.Bytes schema
-  pub rows : List Row
-  pub compiles : Compiles schema (table rows)
-  pub next : List ℕ
-  pub next_held : taken_of (file_at files next_name) ≡ Taken.Bytes next
-  pub others : List Row
-  pub next_compiles : Compiles next (table others)
-  pub type : TypeNo
-  pub named : number_named type_name rows ≡ Some type.0
-  pub later : TypeNo
-  pub next_named : number_named type_name others ≡ Some later.0
+  pub typed : HasType files schema_name type_name
+  pub next : HasType files next_name type_name
 
 -- `ok true` was written of types that are compatible, or the line of a pair that is reached and fails a rule
 abbrev pub ComparedBy : Call → List Row → List Row → TypeNo → TypeNo → Status → Option Differ → Type 0
@@ -191,11 +176,11 @@ ComparesPlainly c rows others m n status = (found : Option Differ) × ComparedBy
 -- under a root is shown, and the types of two accepted schemas are compared
 pub record IsComplete (c : Call) (status : Status) : Type 0 where
   pub runs : (tests : Tests) (v : Typed) (script : List ℕ) (given : IsGiven c tests v script)
-      → IsUndisturbed c given.rows given.type tests given.start v script → (status ≡ S.Memory) ⊎ AnswersPlainly c given.rows given.type tests v script status
+      → IsUndisturbed c given.typed.rows given.typed.type tests given.start v script → (status ≡ S.Memory) ⊎ AnswersPlainly c given.typed.rows given.typed.type tests v script status
   pub checks : (rows : List Row) → IsGivenSchema c rows → IsCalm c → (status ≡ S.Memory) ⊎ ((status ≡ S.Done) × Lists (declared_names rows) c.before.output c.after.output)
-  pub creates : (v : Typed) (d : Data) (given : IsGivenValue c v d) → LetsCreate c given.rows given.type v d → (status ≡ S.Memory) ⊎ CreatesPlainly c given.rows given.type v d status
-  pub shows : (v : Typed) (given : IsGivenRoot c v) → LetsShow c → (status ≡ S.Memory) ⊎ ShowsPlainly c given.rows given.type v status
-  pub compares : (given : IsGivenPair c) → IsCalm c → (status ≡ S.Memory) ⊎ ComparesPlainly c given.rows given.others given.type given.later status
+  pub creates : (v : Typed) (d : Data) (given : IsGivenValue c v d) → LetsCreate c given.typed.rows given.typed.type v d → (status ≡ S.Memory) ⊎ CreatesPlainly c given.typed.rows given.typed.type v d status
+  pub shows : (v : Typed) (given : IsGivenRoot c v) → IsFaultless c → (status ≡ S.Memory) ⊎ ShowsPlainly c given.typed.rows given.typed.type v status
+  pub compares : (given : IsGivenPair c) → IsCalm c → (status ≡ S.Memory) ⊎ ComparesPlainly c given.typed.rows given.next.rows given.typed.type given.next.type status
 
 -- The premise on collisions can be met: where all that a store holds, and all that may come, are among blocks of which no two have one id.
 abbrev pub CanBeApart : Type 0

@@ -56,67 +56,79 @@ abbrev pub call_of : Option Job → Supply → Moment → Output → Supply → 
 call_of job supply moment output supply' moment' output' =
     record { job = job; before = record { supply = supply; moment = moment; output = output }; after = record { supply = supply'; moment = moment'; output = output' } }
 
--- a script was to be run, and nothing was asked of the store but what opening its document asks
-pub record AsksScript (c : Call) (t : Taking) : Type 0 where
+-- ---- what the work of a call is
+
+-- a script, on a document that starts so
+pub record RunsScript (c : Call) (t : Taking) : Type 0 where
   pub rows : List Row
   pub type : TypeNo
   pub start : Start
   pub bytes : List ℕ
   pub work : work_of c.job t ≡ answers rows type start bytes
-  pub asks : Asks hash rows type start c.before.moment c.after.moment
 
--- a script couldn't start, with this cause
-pub record StopsScript (c : Call) (t : Taking) (f : StartFault) : Type 0 where
-  pub rows : List Row
-  pub table : IsTable rows
-  pub type : TypeNo
-  pub start : Start
-  pub bytes : List ℕ
-  pub work : work_of c.job t ≡ answers rows type start bytes
-  pub stops : Stops hash rows type start c.before.moment f c.after.moment
-
--- the input makes a value of the type, and nothing was asked of the store but to keep blocks of it
-pub record TriesValue (c : Call) (t : Taking) : Type 0 where
+-- an input that is to make a value of a type
+pub record MakesValue (c : Call) (t : Taking) : Type 0 where
   pub rows : List Row
   pub type : TypeNo
   pub bytes : List ℕ
   pub work : work_of c.job t ≡ makes rows type bytes
-  pub tried : TriesToCreate hash rows type bytes c.before.moment c.after.moment
 
--- a block of the value, with this id, collides with one that is held
-pub record ClashesValue (c : Call) (t : Taking) (id : List ℕ) : Type 0 where
-  pub rows : List Row
-  pub table : IsTable rows
-  pub type : TypeNo
-  pub bytes : List ℕ
-  pub work : work_of c.job t ≡ makes rows type bytes
-  pub clash : Clashes hash rows type bytes c.before.moment c.after.moment id
-
--- the input makes no value of the type that a store can hold, and this is the first cause
-pub record RefusesValue (c : Call) (t : Taking) (r : Refusal) : Type 0 where
-  pub rows : List Row
-  pub table : IsTable rows
-  pub type : TypeNo
-  pub bytes : List ℕ
-  pub work : work_of c.job t ≡ makes rows type bytes
-  pub refused : IsFirst hash rows type bytes r
-
--- a root was to be opened, and nothing was asked of the store but to get blocks
-pub record ReadsRoot (c : Call) (t : Taking) : Type 0 where
+-- a root that is to be opened
+pub record OpensRoot (c : Call) (t : Taking) : Type 0 where
   pub rows : List Row
   pub type : TypeNo
   pub root : List ℕ
   pub work : work_of c.job t ≡ opens rows type root
+
+-- two types that are compared, with the store left as it was
+pub record ComparesTypes (c : Call) (t : Taking) : Type 0 where
+  pub rows : List Row
+  pub others : List Row
+  pub type : TypeNo
+  pub later : TypeNo
+  pub work : work_of c.job t ≡ matches rows others type later
+  pub same : c.after.moment ≡ c.before.moment
+
+-- ---- what became of it
+
+-- a script was to be run, and nothing was asked of the store but what opening its document asks
+pub record AsksScript (c : Call) (t : Taking) : Type 0 where
+  pub script : RunsScript c t
+  pub asks : Asks hash script.rows script.type script.start c.before.moment c.after.moment
+
+-- a script couldn't start, with this cause
+pub record StopsScript (c : Call) (t : Taking) (f : StartFault) : Type 0 where
+  pub script : RunsScript c t
+  pub table : IsTable script.rows
+  pub stops : Stops hash script.rows script.type script.start c.before.moment f c.after.moment
+
+-- the input makes a value of the type, and nothing was asked of the store but to keep blocks of it
+pub record TriesValue (c : Call) (t : Taking) : Type 0 where
+  pub value : MakesValue c t
+  pub tried : TriesToCreate hash value.rows value.type value.bytes c.before.moment c.after.moment
+
+-- a block of the value, with this id, collides with one that is held
+pub record ClashesValue (c : Call) (t : Taking) (id : List ℕ) : Type 0 where
+  pub value : MakesValue c t
+  pub table : IsTable value.rows
+  pub clash : Clashes hash value.rows value.type value.bytes c.before.moment c.after.moment id
+
+-- the input makes no value of the type that a store can hold, and this is the first cause
+pub record RefusesValue (c : Call) (t : Taking) (r : Refusal) : Type 0 where
+  pub value : MakesValue c t
+  pub table : IsTable value.rows
+  pub refused : IsFirst hash value.rows value.type value.bytes r
+
+-- a root was to be opened, and nothing was asked of the store but to get blocks
+pub record ReadsRoot (c : Call) (t : Taking) : Type 0 where
+  pub opened : OpensRoot c t
   pub reads : OnlyReads c.before.moment c.after.moment
 
 -- no value of the type stands under the root: this block isn't held, or isn't what has to stand there
 pub record LacksRoot (c : Call) (t : Taking) (id : List ℕ) (why : BlockWhy) : Type 0 where
-  pub rows : List Row
-  pub table : IsTable rows
-  pub type : TypeNo
-  pub root : List ℕ
-  pub work : work_of c.job t ≡ opens rows type root
-  pub refused : NotOpened hash rows type root c.before.moment id why c.after.moment
+  pub opened : OpensRoot c t
+  pub table : IsTable opened.rows
+  pub refused : NotOpened hash opened.rows opened.type opened.root c.before.moment id why c.after.moment
 
 -- the cause of a fault
 abbrev pub IsDue : Call → Taking → Fault → Type 0
@@ -140,23 +152,15 @@ Leaves c t f = c.after.moment ≡ c.before.moment
 
 -- every line of the script was answered, and all replies were written
 pub record AnswersAll (c : Call) (t : Taking) (refused : Bool) : Type 0 where
-  pub rows : List Row
-  pub table : IsTable rows
-  pub type : TypeNo
-  pub start : Start
-  pub bytes : List ℕ
-  pub work : work_of c.job t ≡ answers rows type start bytes
-  pub all : ScriptAll rows type start bytes c.before.moment c.before.output refused c.after.moment c.after.output
+  pub script : RunsScript c t
+  pub table : IsTable script.rows
+  pub all : ScriptAll script.rows script.type script.start script.bytes c.before.moment c.before.output refused c.after.moment c.after.output
 
 -- the first lines of the script were answered, and a front of their replies was written
 pub record AnswersSome (c : Call) (t : Taking) : Type 0 where
-  pub rows : List Row
-  pub table : IsTable rows
-  pub type : TypeNo
-  pub start : Start
-  pub bytes : List ℕ
-  pub work : work_of c.job t ≡ answers rows type start bytes
-  pub some : ScriptSome rows type start bytes c.before.moment c.before.output c.after.moment c.after.output
+  pub script : RunsScript c t
+  pub table : IsTable script.rows
+  pub some : ScriptSome script.rows script.type script.start script.bytes c.before.moment c.before.output c.after.moment c.after.output
 
 -- a fault was due, and its line was written
 pub record Tells (c : Call) (t : Taking) (f : Fault) : Type 0 where
@@ -187,36 +191,27 @@ pub record ListsSome (c : Call) (t : Taking) : Type 0 where
 
 -- the value that the input makes stands in the store under this root, and the line of the root was written
 pub record CreatesValue (c : Call) (t : Taking) : Type 0 where
-  pub rows : List Row
-  pub table : IsTable rows
-  pub type : TypeNo
-  pub bytes : List ℕ
-  pub work : work_of c.job t ≡ makes rows type bytes
+  pub value : MakesValue c t
+  pub table : IsTable value.rows
   pub root : BlockId
-  pub created : Created hash rows type bytes c.before.moment c.after.moment root.0
+  pub created : Created hash value.rows value.type value.bytes c.before.moment c.after.moment root.0
   pub written : Appends c.before.output.written c.after.output.written (reply_text (R.Root root))
 
 -- a front of that line was written
 pub record CreatesSome (c : Call) (t : Taking) : Type 0 where
-  pub rows : List Row
-  pub type : TypeNo
-  pub bytes : List ℕ
-  pub work : work_of c.job t ≡ makes rows type bytes
+  pub value : MakesValue c t
   pub root : BlockId
-  pub created : Created hash rows type bytes c.before.moment c.after.moment root.0
+  pub created : Created hash value.rows value.type value.bytes c.before.moment c.after.moment root.0
   pub written : AppendsFront c.before.output.written c.after.output.written (reply_text (R.Root root))
 
 -- A value of the type stands under the root, its shown form has this JSON, or none, and nothing was asked of the store but to get blocks,
 -- no more of them than the value has that stands there in a store that tells what it holds.
 pub record HasRoot (c : Call) (t : Taking) (json : Option (List ℕ)) : Type 0 where
-  pub rows : List Row
-  pub table : IsTable rows
-  pub type : TypeNo
-  pub root : List ℕ
-  pub work : work_of c.job t ≡ opens rows type root
-  pub shown : HasShown hash rows type root c.after.moment json
+  pub opened : OpensRoot c t
+  pub table : IsTable opened.rows
+  pub shown : HasShown hash opened.rows opened.type opened.root c.after.moment json
   pub reads : OnlyReads c.before.moment c.after.moment
-  pub gets : GetsItsBlocks hash rows type root c.before.moment c.after.moment
+  pub gets : GetsItsBlocks hash opened.rows opened.type opened.root c.before.moment c.after.moment
 
 -- the reply that is due on a JSON, or on none
 abbrev pub reply_on : Option (List ℕ) → Reply
@@ -236,23 +231,13 @@ pub record ShowsSome (c : Call) (t : Taking) : Type 0 where
 
 -- the types with the name, of the schema and of the later one, were compared, the answer was told, and the store left
 pub record MatchesTypes (c : Call) (t : Taking) (found : Option Differ) : Type 0 where
-  pub rows : List Row
-  pub others : List Row
-  pub type : TypeNo
-  pub later : TypeNo
-  pub work : work_of c.job t ≡ matches rows others type later
-  pub same : c.after.moment ≡ c.before.moment
-  pub told : IsTold rows others type later found c.before.output c.after.output
+  pub types : ComparesTypes c t
+  pub told : IsTold types.rows types.others types.type types.later found c.before.output c.after.output
 
 -- a front of the answer's line was written
 pub record MatchesSome (c : Call) (t : Taking) : Type 0 where
-  pub rows : List Row
-  pub others : List Row
-  pub type : TypeNo
-  pub later : TypeNo
-  pub work : work_of c.job t ≡ matches rows others type later
-  pub same : c.after.moment ≡ c.before.moment
-  pub told : IsCutOff rows others type later c.before.output c.after.output
+  pub types : ComparesTypes c t
+  pub told : IsCutOff types.rows types.others types.type types.later c.before.output c.after.output
 
 -- the text that was due was cut off
 abbrev pub IsCut : Call → Taking → Type 0
