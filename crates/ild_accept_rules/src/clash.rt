@@ -15,12 +15,11 @@ ghost use Rattle.ild_schema.specs.declared.def.TypeDef.TheVariants as D;
 ghost use Rattle.ild_accept_rules.specs.inside.Seen.{first_named, first_spelled, is_before, is_one, is_seen, is_member_seen, is_told_before};
 
 use crate::seen::{is_before, see_first, see_number};
-use ild_data::Txt;
+use ild_data::{Txt, decimal_of};
 use ild_schema::{
     EnumDef, EnumForm, EnumMember, Field, Mark, Member, Schema, StructDef, TypeDef, TypeNo,
     UnionDef, UnionForm, text_of_field, text_of_member,
 };
-use ild_text::decimal_of;
 use std::alloc::{AllocError, Global};
 use std::collections::BTreeSet;
 

@@ -1,9 +1,8 @@
 //! Bytes in hexadecimal.
 ghost use Rattle.std.specs.Prelude.{◌≡◌, IfOk};
-ghost use Rattle.ild_schema.specs.Hex.{bytes_of_hex};
+ghost use Rattle.ild_data.specs.Hex.{bytes_of_hex};
 
-use ild_data::Octets;
-use ild_text::hex_byte;
+use ild_data::{Octets, hex_byte};
 use std::alloc::{AllocError, Global};
 
 /// The bytes of a text in hexadecimal, two digits of either case a byte, if it is one.

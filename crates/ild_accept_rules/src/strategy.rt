@@ -4,11 +4,11 @@ ghost use Rattle.ild_schema.specs.Places.{first_place};
 ghost use Rattle.ild_schema.specs.Rules.{is_bare_join, is_field_wrong, is_member_wrong, is_value_wrong, strategy_fault};
 
 use crate::clash::member_integer;
+use ild_data::is_hex;
 use ild_schema::{
     EnumDef, EnumForm, EnumMember, Field, Mark, Member, StructDef, StructForm, TypeDef, UnionDef,
     UnionForm,
 };
-use ild_text::is_hex;
 
 /// Whether a field has a setting, where its name stands in no block.
 fn is_field_wrong(form: &StructForm, field: &Field) -> bool

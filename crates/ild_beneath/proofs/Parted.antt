@@ -15,7 +15,7 @@ use Rattle.ild_data.specs.Key.{put, same_text, value_at, without}
 use Rattle.ild_open_held.specs.Splits.{Part, element_parts, entry_parts, field_parts}
 use Rattle.ild_schema.specs.Clear.{AreNamesApart, ClearStruct, ClearUnion, ClearType}
 use Rattle.ild_schema.specs.DataKinds.{kind_number, same_kind}
-use Rattle.ild_schema.specs.Hex.{bytes_of_hex}
+use Rattle.ild_data.specs.Hex.{bytes_of_hex}
 use Rattle.ild_schema.specs.Marks.{field_text, mark_text, mark_kind}
 use Rattle.ild_schema.specs.declared.def.Field.{Field}
 use Rattle.ild_schema.specs.declared.def.MapForm.TheVariants as MF

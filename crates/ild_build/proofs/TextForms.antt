@@ -32,7 +32,7 @@ use Rattle.ild_schema.specs.ValueSeen.{value_of}
 use Rattle.ild_schema.specs.declared.row.Row.{Row}
 use Rattle.ild_schema.specs.DataKinds.{same_kind, has_kind}
 use Rattle.ild_schema.specs.Fitting.{ImplicitFits}
-use Rattle.ild_schema.specs.Hex.{bytes_of_hex}
+use Rattle.ild_data.specs.Hex.{bytes_of_hex}
 use Rattle.ild_schema.specs.Marks.{field_text, mark_text, mark_kind}
 use Rattle.ild_schema.specs.Rules.{is_of}
 use Rattle.ild_schema.specs.Slots.{form_of, plainly}

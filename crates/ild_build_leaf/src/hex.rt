@@ -1,9 +1,9 @@
 //! The prefixes of bytes, in hexadecimal, and the bytes of a spelling.
 ghost use Rattle.std.specs.Prelude.{◌≡◌, ◌++◌, List, ℕ, OnOk, Some};
 ghost use Rattle.ild_data.specs.Spell.{spell_bytes};
-ghost use Rattle.ild_schema.specs.Hex.{bytes_of_hex};
+ghost use Rattle.ild_data.specs.Hex.{bytes_of_hex};
 
-use ild_text::hex_byte;
+use ild_data::hex_byte;
 use std::alloc::AllocError;
 
 /// Appends the bytes of a text in hexadecimal, if it is one.

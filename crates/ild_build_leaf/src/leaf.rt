@@ -2,7 +2,7 @@
 ghost use Rattle.std.specs.Prelude.{◌≡◌, ◌<◌, ◌++◌, OnOk, OnErr, length, option_map};
 ghost use Rattle.ild_data.specs.Spell.{head, spell, spell_text};
 ghost use Rattle.ild_emit.specs.Grown.{IsGrown};
-ghost use Rattle.ild_schema.specs.Decimal.{decimal_of};
+ghost use Rattle.ild_data.specs.Decimal.{decimal_of};
 ghost use Rattle.ild_schema.specs.Marks.{member_integer};
 ghost use Rattle.ild_schema.specs.Value.{unit, enum};
 ghost use Rattle.ild_schema.specs.ValueSeen.{value_of};
@@ -13,10 +13,9 @@ ghost use Rattle.ild_build_leaf.specs.Made.{before_key, entries_major, IsLeaf, m
 ghost use Rattle.ild_build_leaf.specs.Wrote.{Wrote};
 
 use ild_build::{form_of, represented_text};
-use ild_data::Int;
+use ild_data::{Int, decimal_of};
 use ild_emit::Emit;
 use ild_schema::{Accepted, EnumForm, EnumMember, Slot, TypeDef, UnitForm, Val, text_of_member};
-use ild_text::decimal_of;
 use std::alloc::{AllocError, Global};
 
 // Appends a unit of a form.

@@ -6,7 +6,7 @@ use Rattle.ild_data.specs.Spell.{spell_bytes}
 use Rattle.ild_schema.specs.declared.number.Slot.{Slot}
 use Rattle.ild_schema.specs.declared.def.UnionForm.TheVariants as UF
 use Rattle.ild_schema.specs.declared.row.Row.{Row}
-use Rattle.ild_schema.specs.Hex.{bytes_of_hex}
+use Rattle.ild_data.specs.Hex.{bytes_of_hex}
 use Rattle.ild_schema.specs.Value.{Value}
 use Rattle.ild_typed.specs.Hamt.{whole}
 use Rattle.ild_build_leaf.specs.Made.{made}

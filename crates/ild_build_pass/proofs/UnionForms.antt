@@ -13,7 +13,7 @@ use Rattle.ild_data.proofs.Rising.{key_exact}
 use Rattle.ild_schema.specs.declared.number.Slot.{Slot}
 use Rattle.ild_schema.specs.declared.def.UnionForm.TheVariants as UF
 use Rattle.ild_schema.specs.declared.row.Row.{Row}
-use Rattle.ild_schema.specs.Hex.{bytes_of_hex}
+use Rattle.ild_data.specs.Hex.{bytes_of_hex}
 use Rattle.ild_schema.specs.Value.{Value}
 use Rattle.ild_typed.specs.Composed.{marked_form}
 use Rattle.ild_typed.specs.Hamt.{whole}

@@ -2,7 +2,7 @@
 ghost use Rattle.std.specs.Prelude.{◌≡◌, ◌<◌, ◌&&◌, IfOk, IfSome, None, Some, bytes_eq, length, option_and_then, option_map, true};
 ghost use Rattle.std.specs.List.{list_all};
 ghost use Rattle.ild_schema.specs.DataKinds.{kind_number, same_kind};
-ghost use Rattle.ild_schema.specs.Hex.{bytes_of_hex};
+ghost use Rattle.ild_data.specs.Hex.{bytes_of_hex};
 ghost use Rattle.ild_schema.specs.Marks.{mark_kind, mark_text};
 ghost use Rattle.ild_schema.specs.Table.{def_at};
 ghost use Rattle.ild_schema.specs.declared.def.TypeDef.TheVariants as D;

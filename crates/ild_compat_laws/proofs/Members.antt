@@ -14,7 +14,7 @@ use Rattle.ild_schema.specs.declared.def.KindWord.TheVariants as K
 use Rattle.ild_schema.specs.declared.def.Member.{Member}
 use Rattle.ild_schema.specs.declared.def.EnumMember.{EnumMember}
 use Rattle.ild_schema.specs.DataKinds.{same_kind}
-use Rattle.ild_schema.specs.Hex.{bytes_of_hex}
+use Rattle.ild_data.specs.Hex.{bytes_of_hex}
 use Rattle.ild_schema.specs.Marks.{mark_text, mark_kind, member_text, member_integer}
 use Rattle.ild_typed.specs.Composed.{member_form, marked_form, enum_form}
 use Rattle.ild_typed.specs.Strings.{bytes_in}

@@ -17,3 +17,5 @@ pub mod Cids
 pub mod TextBits
 pub mod Texts
 pub mod HamtShapes
+pub mod Digits
+pub mod Hexing

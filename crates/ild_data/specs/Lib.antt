@@ -24,3 +24,5 @@ pub mod ByteOrder
 pub mod Trie
 pub mod TrieBlocks
 pub mod Padded
+pub mod Decimal
+pub mod Hex

@@ -1,4 +1,4 @@
-//! The data model: numbers, texts, trees, the ids of blocks and the order of keys.
+//! The data model: numbers and their numerals, texts, trees, the ids of blocks and the order of keys.
 #![tactic(auto)]
 
 mod base32;
@@ -8,8 +8,10 @@ mod cid_letters;
 mod cid_parts;
 mod cid_ref;
 mod copy;
+mod decimal;
 mod fault;
 mod hamt_shape;
+mod hex;
 mod id;
 mod int;
 mod key;
@@ -27,8 +29,10 @@ mod varint;
 pub use cid::Cid;
 pub use cid_letters::{cid_of_text, cid_text};
 pub use cid_ref::CidRef;
+pub use decimal::{decimal_of, digits_value, natural_of};
 pub use fault::{CidFault, TextErr};
 pub use hamt_shape::HamtShape;
+pub use hex::{hex_byte, is_hex};
 pub use id::{BlockId, block_id};
 pub use int::Int;
 pub use key::{key_less, key_order};

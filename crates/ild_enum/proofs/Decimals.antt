@@ -10,7 +10,7 @@ use Rattle.std.proofs.lemmas.Fmt.{decimal-digits_value, decimal_digit, decimal_i
 use Rattle.std.proofs.lemmas.Str.Parse.{IsNumeralModel, numerals_by_fold}
 use Rattle.std.proofs.lemmas.Int.{ints}
 use Rattle.ild_data.specs.Integer.{IsInt}
-use Rattle.ild_schema.specs.Decimal.{is_digit, digits_value, are_digits, natural_of, below_zero, from_zero, decimal_of}
+use Rattle.ild_data.specs.Decimal.{is_digit, digits_value, are_digits, natural_of, below_zero, from_zero, decimal_of}
 use Rattle.ild_typed.proofs.Basics.{then_from, true_from}
 
 own : IsNumeralModel (λ ds. all_ascii_digits ds ≡ true) (digits_value 0)

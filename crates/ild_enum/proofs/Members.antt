@@ -12,7 +12,7 @@ use Rattle.ild_data.specs.Data.{Data}
 use Rattle.ild_data.specs.Integer.{IsInt}
 use Rattle.ild_data.specs.Key.{same_text}
 use Rattle.ild_cbor.specs.Scalar.{int_of}
-use Rattle.ild_schema.specs.Decimal.{decimal_of}
+use Rattle.ild_data.specs.Decimal.{decimal_of}
 use Rattle.ild_schema.specs.declared.def.EnumDef.{EnumDef}
 use Rattle.ild_schema.specs.declared.def.EnumForm.{EnumForm}
 use Rattle.ild_schema.specs.declared.def.EnumForm.TheVariants as F

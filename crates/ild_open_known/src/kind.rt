@@ -1,6 +1,9 @@
 //! What a HAMT is read as.
-ghost use Rattle.std.specs.Prelude.{◌≡◌, true};
+ghost use Rattle.std.specs.Prelude.{◌≡◌, ◌++◌, true};
+ghost use Rattle.sha2.specs.Hashers.{Holds256};
+ghost use Rattle.sha2.specs.Sha256.{sha256};
 ghost use Rattle.ild_open_known.specs.Covers.{Covers};
+ghost use Rattle.ild_open_known.specs.Seats.{kind_bytes};
 
 use ild_data::{BlockId, HamtShape};
 use ild_schema::{Slot, TypeNo};
@@ -51,8 +54,10 @@ impl ReadAs {
             && self.room <= other.room
     }
 
-    // The hash of this so far, whatever the room.
-    fn begun(self) -> Sha256 {
+    // A hash that has taken this in, whatever the room.
+    fn begun(self) -> Sha256
+        ensures { Holds256 result (kind_bytes self) }
+    {
         let mut hasher = Sha256::new();
         hasher.update(&self.key.0.to_be_bytes());
         hasher.update(&self.value.ty.0.to_be_bytes());
@@ -63,7 +68,9 @@ impl ReadAs {
     }
 
     /// The seat of a root with these bytes that is read as this, in whatever room.
-    pub fn seat(self, bytes: &[u8]) -> Seat {
+    pub fn seat(self, bytes: &[u8]) -> Seat
+        ensures { result.digest ≡ sha256 (kind_bytes self ++ bytes.now) }
+    {
         let mut hasher = self.begun();
         hasher.update(bytes);
         Seat {
@@ -72,7 +79,9 @@ impl ReadAs {
     }
 
     /// The seat of the node under an id at the end of a way, in a HAMT that is read as this, in whatever room.
-    pub fn seat_at(self, id: BlockId, way: &[u8]) -> Seat {
+    pub fn seat_at(self, id: BlockId, way: &[u8]) -> Seat
+        ensures { result.digest ≡ sha256 ((kind_bytes self ++ id.0) ++ way.now) }
+    {
         let mut hasher = self.begun();
         hasher.update(&id.0);
         hasher.update(way);

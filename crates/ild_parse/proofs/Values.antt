@@ -1,10 +1,10 @@
 -- Values of digits and of texts.
-use Rattle.std.proofs.Common.{◌≡◌, ℕ, suc, ◌+◌, ◌-◌, ◌*◌, ◌^◌, ◌≤◌, ◌<◌, true, false, List, [], ◌∷◌, ◌++◌, length, take, drop, get_or, refl, sym, ap, subst, ◌∙◌, arith, IsUtf8, append_assoc, length-append}
-use Rattle.std.specs.Prelude.{nat_lt, ◌==◌, encode_utf8}
+use Rattle.std.proofs.Common.{◌≡◌, ℕ, ◌+◌, ◌-◌, ◌<◌, true, false, List, [], ◌∷◌, ◌++◌, length, take, drop, get_or, refl, sym, ap, subst, ◌∙◌, arith, IsUtf8, append_assoc, length-append}
+use Rattle.std.specs.Prelude.{◌==◌, encode_utf8}
 use Rattle.std.specs.List.{AllByRecursion}
 use Rattle.std.specs.Str.{IsCharBoundary, encode_utf8_all}
-use Rattle.std.proofs.Math.Seq.{drop-cons, get_or-append_seam}
-use Rattle.std.proofs.lemmas.Bool.{le-ltb, false≢true}
+use Rattle.std.proofs.Math.Seq.{get_or-append_seam}
+use Rattle.std.proofs.lemmas.Bool.{false≢true}
 use Rattle.std.proofs.lemmas.List.{at_drop_more}
 use Rattle.std.proofs.lemmas.Str.{IsUtf8-nil, IsUtf8-between, IsCharBoundary-before_ascii, IsCharBoundary-after_ascii}
 use Rattle.ild_lex.specs.declared.token.Token.{Token}
@@ -14,17 +14,7 @@ use Rattle.ild_lex.specs.Form.{IsText, IsToken}
 use Rattle.ild_lex.specs.Span.{IsSpan, bytes_of}
 use Rattle.ild_parse_grammar.proofs.Stream.{stream, text_of}
 use Rattle.ild_parse_grammar.specs.Sign.{is_text, is_text_kind}
-use Rattle.ild_parse_grammar.specs.Value.{value_of, inside_of, unescaped}
-
--- more digits make no smaller number
-value_grows : (n : ℕ) (ds : List ℕ) → n ≤ value_of n ds
-value_grows n [] = omega arith
-value_grows n (d ∷ ds) = omega (arith, value_grows (10 * n + (d - 48)) ds)
-
-pub too_large : (bytes : List ℕ) (i v : ℕ) → i < length bytes → value_of v (drop i bytes) ≡ value_of 0 bytes → 2 ^ 64 ≤ 10 * v + (get_or bytes i 0 - 48) → nat_lt (value_of 0 bytes) (2 ^ 64) ≡ false
-too_large bytes i v lt so_far large =
-    let next : value_of v (drop i bytes) ≡ value_of (10 * v + (get_or bytes i 0 - 48)) (drop (suc i) bytes) = ap (value_of v) (drop-cons bytes i 0 lt) in
-    le-ltb _ _ (omega (arith, so_far, next, value_grows (10 * v + (get_or bytes i 0 - 48)) (drop (suc i) bytes)))
+use Rattle.ild_parse_grammar.specs.Value.{inside_of, unescaped}
 
 -- the next token is a text by itself
 pub text_utf8 : (src : List ℕ) (ts : List Token) → AllByRecursion (IsSpan src) ts → IsUtf8 (text_of (stream src ts).signs)

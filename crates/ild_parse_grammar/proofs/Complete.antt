@@ -10,7 +10,8 @@ use Rattle.ild_parse_grammar.specs.declared.ast.Text.{Text}
 use Rattle.ild_parse_grammar.specs.declared.ast.Number.{Number}
 use Rattle.ild_parse_grammar.specs.Sign.{Sign, place_of, kind_of_text, begins_upper, is_word_kind, is_number_kind, is_text_kind}
 use Rattle.ild_parse_grammar.proofs.Stream.{Stream, kind_code, is_literal, same_text, begins}
-use Rattle.ild_parse_grammar.specs.Value.{number_of, meaning}
+use Rattle.ild_data.specs.Decimal.{decimal_of}
+use Rattle.ild_parse_grammar.specs.Value.{meaning}
 use Rattle.ild_parse_grammar.proofs.Read.{literal_at, type_name_at, name_at, text_at, number_at, many_at}
 use Rattle.ild_parse_grammar.proofs.Refer.{behind_word}
 use Rattle.ild_parse_grammar.proofs.Grammar.{closes, braced_at}
@@ -66,7 +67,7 @@ by_text P x (t ∷ xs) ys h k =
     let same : (record { kind = K.Text; at = x.at; text = t.text } ∷ ys) ≡ (t ∷ xs) = λ i. record { kind = kind i; at = h.1 i; text = t.text } ∷ sym h.3 i in
     subst P same (k t.text h.2)
 
-pub by_number : (P : List Sign → Type 0) (n : Number) (xs ys : List Sign) → IsNumber n xs ys → ((text : List ℕ) → number_of text ≡ Some n.value → P (record { kind = K.Number; at = n.at; text = text } ∷ ys)) → P xs
+pub by_number : (P : List Sign → Type 0) (n : Number) (xs ys : List Sign) → IsNumber n xs ys → ((text : List ℕ) → decimal_of text ≡ Some n.value → P (record { kind = K.Number; at = n.at; text = text } ∷ ys)) → P xs
 by_number P n [] ys h k = absurd h
 by_number P n (t ∷ xs) ys h k =
     let kind = kind_number t.kind h.0 in

@@ -13,7 +13,8 @@ use Rattle.ild_parse_grammar.specs.declared.ast.EnumForm.TheVariants as EF
 use Rattle.ild_parse_grammar.specs.declared.ast.UnitForm.TheVariants as NF
 use Rattle.ild_parse_grammar.specs.Sign.{Sign, is_type, is_name, is_text, is_number}
 use Rattle.ild_parse_grammar.proofs.Stream.{Stream, begins}
-use Rattle.ild_parse_grammar.specs.Value.{number_of, meaning}
+use Rattle.ild_data.specs.Decimal.{decimal_of}
+use Rattle.ild_parse_grammar.specs.Value.{meaning}
 use Rattle.ild_parse_grammar.proofs.Read.{◌>>=◌, type_name_at, name_at, text_at, number_at, value_here, setting_at, one_setting_at, both_settings_at, two_settings_at}
 use Rattle.ild_parse_grammar.proofs.Form.{pairs_at, map_form_at, struct_form_at, envelope_at, union_form_at, enum_form_at, unit_form_at, optional_form_at, needed_form_at}
 use Rattle.ild_parse_grammar.specs.Derive.{IsTypeName, IsName, IsText, IsNumber, IsOptional, IsFormed}
@@ -91,13 +92,13 @@ numbered_is at true (Some n) a e =
     subst (λ (x : Number). (true ≡ true) × (x.at ≡ at) × (Some n ≡ Some x.value)) same (refl, refl, refl)
 numbered_is at false v a e = absurd cc
 
-number_whole : (t : Sign) (a : Number) → cond (is_number (t ∷ [])) (numbered t.at (number_of t.text)) None ≡ Some a → IsWhole IsNumber a (t ∷ [])
-number_whole t a e ws = let k = numbered_is t.at (is_number (t ∷ [])) (number_of t.text) a e in (k.0, k.1, k.2, refl)
+number_whole : (t : Sign) (a : Number) → cond (is_number (t ∷ [])) (numbered t.at (decimal_of t.text)) None ≡ Some a → IsWhole IsNumber a (t ∷ [])
+number_whole t a e ws = let k = numbered_is t.at (is_number (t ∷ [])) (decimal_of t.text) a e in (k.0, k.1, k.2, refl)
 
 pub number-opens : (end : ℕ) (xs : List Sign) → Opens number_at IsNumber end xs
 unfolding number_at numbered
-number-opens end xs = opens_token IsNumber number_at end (λ t. cond (is_number (t ∷ [])) (numbered t.at (number_of t.text)) None) refl
-    (λ t us. each t us (is_number (t ∷ [])) (number_of t.text)) number_grows number_whole xs
+number-opens end xs = opens_token IsNumber number_at end (λ t. cond (is_number (t ∷ [])) (numbered t.at (decimal_of t.text)) None) refl
+    (λ t us. each t us (is_number (t ∷ [])) (decimal_of t.text)) number_grows number_whole xs
   where
     each : (t : Sign) (us : List Sign) (b : Bool) (v : Option ℤ) → cond b (value_here (reading end (t ∷ us)) v) (Err t.at) ≡ token_read end t us (cond b (numbered t.at v) None)
     each t us true None = refl

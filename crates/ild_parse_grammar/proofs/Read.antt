@@ -7,7 +7,8 @@ use Rattle.ild_parse_grammar.specs.declared.ast.Text.{Text}
 use Rattle.ild_parse_grammar.specs.declared.ast.Number.{Number}
 use Rattle.ild_parse_grammar.proofs.Stream.{Stream, place, text_of, next_is, rest_of}
 use Rattle.ild_parse_grammar.specs.Sign.{is_type, is_name, is_text, is_number}
-use Rattle.ild_parse_grammar.specs.Value.{number_of, meaning}
+use Rattle.ild_data.specs.Decimal.{decimal_of}
+use Rattle.ild_parse_grammar.specs.Value.{meaning}
 
 infixl 10 ◌>>=◌
 abbrev pub ◌>>=◌ : {A B : Type 0} → Result A ℕ → (A → Result B ℕ) → Result B ℕ
@@ -34,7 +35,7 @@ value_here s None = Err (place s)
 value_here s (Some n) = Ok (record { at = place s; value = n }, rest_of s)
 
 unfoldable pub number_at : Stream → Result (Number × Stream) ℕ
-number_at s = if is_number s.signs then value_here s (number_of (text_of s.signs)) else Err (place s)
+number_at s = if is_number s.signs then value_here s (decimal_of (text_of s.signs)) else Err (place s)
 
 -- ---- settings in braces, in any order, each once
 

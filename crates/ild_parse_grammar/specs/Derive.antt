@@ -6,7 +6,8 @@ use Rattle.ild_parse_grammar.specs.declared.ast.Name.{Name}
 use Rattle.ild_parse_grammar.specs.declared.ast.Text.{Text}
 use Rattle.ild_parse_grammar.specs.declared.ast.Number.{Number}
 use Rattle.ild_parse_grammar.specs.Sign.{Sign, kind_of_text, is_type, is_name, is_text, is_number}
-use Rattle.ild_parse_grammar.specs.Value.{number_of, meaning}
+use Rattle.ild_data.specs.Decimal.{decimal_of}
+use Rattle.ild_parse_grammar.specs.Value.{meaning}
 use Rattle.ild_parse_grammar.specs.Reference.{Reference, refer, Refers, named, link, list, map}
 
 -- ---- words and marks, names, texts and numbers
@@ -29,7 +30,7 @@ IsText x (t ∷ xs) ys = IsTrue (is_text (t ∷ xs)) × (x.at ≡ t.at) × (x.te
 
 abbrev pub IsNumber : Number → List Sign → List Sign → Type 0
 IsNumber n [] ys = ⊥
-IsNumber n (t ∷ xs) ys = IsTrue (is_number (t ∷ xs)) × (n.at ≡ t.at) × (number_of t.text ≡ Some n.value) × (xs ≡ ys)
+IsNumber n (t ∷ xs) ys = IsTrue (is_number (t ∷ xs)) × (n.at ≡ t.at) × (decimal_of t.text ≡ Some n.value) × (xs ≡ ys)
 
 -- a part begins at this place
 abbrev pub BeginsAt : ℕ → List Sign → Type 0

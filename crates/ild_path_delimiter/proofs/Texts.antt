@@ -19,7 +19,7 @@ use Rattle.ild_path_steps.proofs.Holding.{Held, of_any, of_elements, of_entries,
 use Rattle.ild_path_steps.specs.Steps.{is_left_out}
 use Rattle.ild_schema.specs.Clear.{AreClearFields, ClearStruct}
 use Rattle.ild_schema.specs.Copies.{base}
-use Rattle.ild_schema.specs.Hex.{bytes_of_hex}
+use Rattle.ild_data.specs.Hex.{bytes_of_hex}
 use Rattle.ild_schema.specs.Legible.{IsLegible}
 use Rattle.ild_schema.specs.Marks.{field_text, mark_kind, mark_text}
 use Rattle.ild_schema.specs.Slots.{form_of}

@@ -22,7 +22,7 @@ use Rattle.ild_path_last.specs.Change.{NewIs}
 use Rattle.ild_path_steps.proofs.Holding.{Held, held_by, of_any, of_elements, of_entries, of_fields, of_member, of_nothing}
 use Rattle.ild_path_steps.proofs.Leading.{member_number}
 use Rattle.ild_schema.specs.DataKinds.{same_kind}
-use Rattle.ild_schema.specs.Hex.{bytes_of_hex}
+use Rattle.ild_data.specs.Hex.{bytes_of_hex}
 use Rattle.ild_schema.specs.Marks.{mark_kind, mark_text}
 use Rattle.ild_schema.specs.Parts.{part_named}
 use Rattle.ild_schema.specs.Slots.{form_of, plainly}

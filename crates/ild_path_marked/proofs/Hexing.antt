@@ -4,7 +4,7 @@ use Rattle.std.specs.Option.{unwrap_or}
 use Rattle.ild_path_marked.specs.inside.Parts.{hex_bytes}
 use Rattle.std.specs.Prelude.{is_some, option_and_then, option_map}
 use Rattle.std.proofs.lemmas.Option.{same_Some}
-use Rattle.ild_schema.specs.Hex.{bytes_of_hex, hex_byte}
+use Rattle.ild_data.specs.Hex.{bytes_of_hex, hex_byte}
 
 -- two digits a byte
 length_at : (a b : ℕ) (more s : List ℕ) (o : Option ℕ) (p : Option (List ℕ)) → ((rest : List ℕ) → p ≡ Some rest → length more ≡ 2 * length rest)

@@ -8,7 +8,7 @@ use Rattle.ild_data.specs.Data as T
 use Rattle.ild_data.specs.Data.{Data}
 use Rattle.ild_path_marked.specs.inside.Parts.{behind_hex, hex_bytes}
 use Rattle.ild_schema.specs.declared.def.UnionForm.TheVariants as F
-use Rattle.ild_schema.specs.Hex.{bytes_of_hex}
+use Rattle.ild_data.specs.Hex.{bytes_of_hex}
 use Rattle.ild_typed.specs.Composed.{marked_form}
 
 nothing_of : (o : Option (List ℕ)) → option_and_then {U = Data} (λ (front : List ℕ). None) o ≡ None

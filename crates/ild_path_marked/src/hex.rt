@@ -1,10 +1,10 @@
 //! The prefixes of bytes, in hexadecimal.
 ghost use Rattle.std.specs.Prelude.{◌≡◌, ◌++◌, List, OnOk, Some, length, ℕ};
 ghost use Rattle.ild_path_marked.specs.inside.Parts.{hex_bytes};
-ghost use Rattle.ild_schema.specs.Hex.{bytes_of_hex};
+ghost use Rattle.ild_data.specs.Hex.{bytes_of_hex};
 
+use ild_data::{hex_byte, is_hex};
 use ild_emit::Emit;
-use ild_text::{hex_byte, is_hex};
 use std::alloc::AllocError;
 
 /// How many bytes a text is in hexadecimal, and 0 where it is none.

@@ -12,9 +12,8 @@ use crate::hex::hex_count;
 use crate::part::Part;
 use crate::write::made;
 use ild_cbor::Node;
-use ild_data::Octets;
+use ild_data::{Octets, is_hex};
 use ild_splice::SpliceErr;
-use ild_text::is_hex;
 use std::alloc::Global;
 
 // The text that a prefix and another text are together.

@@ -27,7 +27,7 @@ use Rattle.ild_path_steps.proofs.Holding.{Held, held_by, of_any, of_elements, of
 use Rattle.ild_path_steps.specs.Steps.{is_left_out}
 use Rattle.ild_schema.specs.Clear.{ClearStruct, KeysApart}
 use Rattle.ild_schema.specs.Copies.{base}
-use Rattle.ild_schema.specs.Hex.{bytes_of_hex}
+use Rattle.ild_data.specs.Hex.{bytes_of_hex}
 use Rattle.ild_schema.specs.Joins.{joined, pair_text}
 use Rattle.ild_schema.specs.Legible.{IsLegible}
 use Rattle.ild_schema.specs.Marks.{field_text, mark_kind, mark_text}

@@ -1,40 +1,34 @@
 -- The names of layouts.
-use Rattle.std.proofs.Common.{◌≡◌, ℕ, suc, ◌+◌, ◌-◌, ◌*◌, ◌≤◌, ◌<◌, ◌==◌, ◌&&◌, List, [], ◌∷◌, length, Bool, true, false, cond, Option, Some, None, refl, sym, ◌∙◌, ap, subst, arith}
-use Rattle.std.specs.Prelude.{not, nat_le, nat_lt, option_and_then, MatchOption, if◌then◌else◌}
-use Rattle.std.specs.List.{list_all}
-use Rattle.std.proofs.lemmas.Bool.{and_parts, and_from, leb-true, le-leb, le-ltb}
+use Rattle.std.proofs.Common.{◌≡◌, ℕ, ◌≤◌, ◌<◌, ◌^◌, ◌&&◌, Bool, true, false, cond, Option, Some, None, refl, sym, ◌∙◌, ap, arith}
+use Rattle.std.specs.Prelude.{nat_le, nat_lt, option_and_then, MatchOption, if◌then◌else◌}
+use Rattle.std.proofs.lemmas.Bool.{and_from, le-leb, le-ltb, lt-ltb, ltb-false}
 use Rattle.std.proofs.lemmas.Option.{same_Some, none-some}
 use Rattle.ild_data.specs.declared.hamt_shape.HamtShape.{HamtShape}
 use Rattle.ild_data.specs.TrieShape.{is_shape}
 use Rattle.ild_data.proofs.HamtShapes.{same-shape}
 use Rattle.ild_resolve.specs.Layouts.{shape_if, shape_at}
-use Rattle.ild_schema.specs.Decimal.{is_digit, are_digits, digits_value, natural_of}
 
-value-grows : (n : ℕ) (ds : List ℕ) → n ≤ digits_value n ds
-value-grows n [] = omega arith
-value-grows n (d ∷ ds) = omega (arith, value-grows (10 * n + (d - 48)) ds)
+-- a number of 64 bits that is told of digits, below 100 or not, and none
+pub told-small : (o : Option ℕ) (n : ℕ) → Some n ≡ option_and_then (λ n. if nat_lt n (2 ^ 64) then Some n else None) o → n < 100 → Some n ≡ option_and_then (λ n. if nat_lt n 100 then Some n else None) o
+told-small None n e small = absurd (none-some n (sym e))
+told-small (Some m) n e small = by (nat_lt m (2 ^ 64)) e where
+  by : (b : Bool) → Some n ≡ cond b (Some m) None → Some n ≡ cond (nat_lt m 100) (Some m) None
+  by true h = let same : n ≡ m = same_Some n m h in rw (lt-ltb m 100 (omega (arith, small, same))) h
+  by false h = absurd (none-some n (sym h))
 
-no_zero : (a : ℕ) → not (a == 48) ≡ true → 48 ≤ a → 49 ≤ a
-no_zero a h le = grind (arith, h, le)
+pub told-large : (o : Option ℕ) (n : ℕ) → Some n ≡ option_and_then (λ n. if nat_lt n (2 ^ 64) then Some n else None) o → 100 ≤ n → None ≡ option_and_then (λ n. if nat_lt n 100 then Some n else None) o
+told-large None n e large = refl
+told-large (Some m) n e large = by (nat_lt m (2 ^ 64)) e where
+  by : (b : Bool) → Some n ≡ cond b (Some m) None → None ≡ cond (nat_lt m 100) (Some m) None
+  by true h = let same : n ≡ m = same_Some n m h in rw (le-ltb m 100 (omega (arith, large, same))) refl
+  by false h = absurd (none-some n (sym h))
 
--- more than two digits are 100 or more
-pub three_none : (ds : List ℕ) → 3 ≤ length ds → option_and_then (λ n. if nat_lt n 100 then Some n else None) (natural_of ds) ≡ None
-three_none [] h = absurd (omega (arith, h))
-three_none (a ∷ []) h = absurd (omega (arith, h))
-three_none (a ∷ b ∷ []) h = absurd (omega (arith, h))
-three_none (a ∷ b ∷ c ∷ ds) h = by (are_digits (a ∷ b ∷ c ∷ ds)) refl where
-  value : ℕ
-  value = digits_value 0 (a ∷ b ∷ c ∷ ds)
-
-  by : (t : Bool) → are_digits (a ∷ b ∷ c ∷ ds) ≡ t → option_and_then (λ n. if nat_lt n 100 then Some n else None) (cond t (Some value) None) ≡ None
-  by false e = refl
-  by true e =
-      let digits = and_parts (not (a == 48)) (list_all is_digit (a ∷ b ∷ c ∷ ds)) e in
-      let first = and_parts (is_digit a) (list_all is_digit (b ∷ c ∷ ds)) digits.1 in
-      let low = and_parts (nat_le 48 a) (nat_le a 57) first.0 in
-      let large : 49 ≤ a = no_zero a digits.0 (leb-true 48 a low.0) in
-      let grown = value-grows (10 * (10 * (10 * 0 + (a - 48)) + (b - 48)) + (c - 48)) ds in
-      ap (λ t. cond t (Some value) None) (le-ltb value 100 (omega (arith, grown, large)))
+pub told-none : (o : Option ℕ) → None ≡ option_and_then (λ n. if nat_lt n (2 ^ 64) then Some n else None) o → None ≡ option_and_then (λ n. if nat_lt n 100 then Some n else None) o
+told-none None e = refl
+told-none (Some m) e = by (nat_lt m (2 ^ 64)) refl e where
+  by : (b : Bool) → nat_lt m (2 ^ 64) ≡ b → None ≡ cond b (Some m) None → None ≡ cond (nat_lt m 100) (Some m) None
+  by true is h = absurd (none-some m h)
+  by false is h = let large : 2 ^ 64 ≤ m = ltb-false m (2 ^ 64) is in rw (le-ltb m 100 (omega (arith, large))) refl
 
 -- a shape of these numbers is the one, and there is none where they are no shape's
 shape-none : (width bucket : ℕ) (b : Bool) (is : is_shape width bucket ≡ b) → is_shape width bucket ≡ false → shape_if width bucket b is ≡ None

@@ -1,5 +1,5 @@
 -- A name stands for one of the types that there are.
-use Rattle.std.proofs.Common.{◌≡◌, ℕ, suc, ◌+◌, ◌<◌, ◌≤◌, Bool, true, false, cond, List, [], ◌∷◌, Option, Some, None, length, bytes_eq, arith}
+use Rattle.std.proofs.Common.{ℕ, suc, ◌+◌, ◌<◌, ◌≤◌, Bool, true, false, cond, List, [], ◌∷◌, Option, Some, None, length, bytes_eq, arith}
 use Rattle.std.specs.List.{position_from}
 use Rattle.std.specs.Option.{option_or, unwrap_or}
 use Rattle.ild_schema.specs.Names.{is_named, number_named}

@@ -5,7 +5,7 @@ use Rattle.std.proofs.Common.{refl}
 use Rattle.std.proofs.lemmas.Bool.{and_parts, leb-true}
 use Rattle.ild_data.specs.declared.hamt_shape.HamtShape.{HamtShape}
 use Rattle.ild_data.specs.TrieShape.{is_shape, usual}
-use Rattle.ild_schema.specs.Decimal.{natural_of}
+use Rattle.ild_data.specs.Decimal.{natural_of}
 
 -- the shape of so many bits and entries, if there is one
 abbrev pub shape_if : (width bucket : ℕ) (b : Bool) → is_shape width bucket ≡ b → Option HamtShape

@@ -3,14 +3,14 @@ ghost use Rattle.std.specs.Prelude.{◌≡◌, ◌<◌, ◌≤◌, ◌*◌, ◌+
 ghost use Rattle.std.specs.List.{list_all};
 ghost use Rattle.std.specs.Option.{unwrap_or};
 ghost use Rattle.ild_data.specs.TrieShape.{usual};
-ghost use Rattle.ild_schema.specs.Decimal.{are_digits, is_digit, natural_of};
+ghost use Rattle.ild_data.specs.Decimal.{are_digits, is_digit, natural_of};
 ghost use Rattle.ild_schema.specs.declared.def.MapForm.TheVariants as M;
 ghost use Rattle.ild_resolve.specs.Events.{advances};
 ghost use Rattle.ild_resolve.specs.inside.Judged.{Judged};
 ghost use Rattle.ild_resolve.specs.Layouts.{is_sized, shape_at, shape_named};
 
 use crate::ResolveErr;
-use ild_data::HamtShape;
+use ild_data::{HamtShape, natural_of};
 use ild_parse_grammar::TypeName;
 use ild_schema::MapForm;
 
@@ -20,15 +20,12 @@ fn digit(byte: u8) -> u32
     u32::from(byte.saturating_sub(b'0'))
 }
 
-/// The number of one digit or two, without a zero before another.
+/// The number of one digit or two.
 fn number_of(digits: &[u8]) -> Option<u32>
     ensures { result ≡ option_and_then (λ n. if nat_lt n 100 then Some n else None) (natural_of digits.now) }
 {
-    match digits {
-        [one] if one.is_ascii_digit() => Some(digit(*one)),
-        [ten, one] if *ten != b'0' && ten.is_ascii_digit() && one.is_ascii_digit() => {
-            Some(10 * digit(*ten) + digit(*one))
-        }
+    match natural_of(digits) {
+        Some(n) if n < 100 => Some(n as u32),
         _ => None,
     }
 }

@@ -4,6 +4,7 @@ use Rattle.std.specs.Prelude.{option_map}
 use Rattle.std.proofs.lemmas.Option.{same_Some}
 use Rattle.ild_script_batch.proofs.Inside.{told_over}
 use Rattle.ild_data.specs.Spell.{id_of}
+use Rattle.ild_data.specs.declared.id.BlockId.{BlockId}
 use Rattle.ild_dirty.specs.Batch.{batch_moment}
 use Rattle.ild_edges.specs.Store.{Moment}
 use Rattle.ild_schema.specs.Value.{Value}
@@ -29,6 +30,12 @@ refused_as (R.No other) refusal e = same_Some (R.No other) (R.No refusal) e
 refused_as (R.Ok text) refusal e = absurd cc
 refused_as (R.Root id) refusal e = absurd (let bad : R.Ok null_text ≡ R.No refusal = sym null_is ∙ same_Some (told_inside (R.Root id)) (R.No refusal) e in cc)
 
+-- no root is told inside a batch
+rootless : (reply : Reply) (id : BlockId) → Some (told_inside reply) ≡ Some (R.Root id) → ⊥
+rootless (R.No other) id e = absurd cc
+rootless (R.Ok text) id e = absurd cc
+rootless (R.Root other) id e = absurd (let bad : R.Ok null_text ≡ R.Root id = sym null_is ∙ same_Some (told_inside (R.Root other)) (R.Root id) e in cc)
+
 told_beneath : (own : List (List ℕ)) (o : Option (List (List ℕ))) → option_map (λ held. own ++ held) o ≢ None → o ≢ None
 told_beneath own None told = told
 told_beneath own (Some held) told = λ e. absurd cc
@@ -42,7 +49,10 @@ asks_inside inside over beneath old new b was now a m n reply g p x y of fits al
       type = ans.type;
       alike = (alike.0 ∙ sym ans.table, alike.1 ∙ sym ans.type);
       kept = λ refusal is. (ans.kept refusal (ap Some (refused_as reply refusal is)), refl);
+      told = λ t path is. (ans.told t path is, refl);
+      rooted = λ id is. absurd (rootless reply id is);
       failed = λ is. ans.failed (ap Some (refused_as reply N.Store is));
+      blamed = λ is. ans.blamed (ap Some (refused_as reply N.Block is));
       leads = λ tests s are z. subst (λ (t : Stage Value). TurnsTo id_of (setting_of id_of old tests) new (Some b) now tests a m t (Some (told_inside reply)) n) (sym z.is) (leads tests s are z under);
     } where
       leads : (tests : Tests) (s : Stage Value) → AreTests (table_in old) tests → (z : IsInBatch id_of old b was tests m s) → IsLaterBeneath m n x y → TurnsTo id_of (setting_of id_of old tests) new (Some b) now tests a m (batching z.value z.kept z.owed was) (Some (told_inside reply)) n

@@ -18,7 +18,10 @@ use Rattle.ild_script_meaning.specs.Lines.{Setting, due, root_due, begin_due, co
 use Rattle.ild_view_doc.specs.Docs.{block_in, table_in, type_in}
 use Rattle.ild_view_doc.specs.declared.doc.Doc.{Doc}
 use Rattle.ild_run_standing.specs.Standing.{IsAtState, IsBegun, StandsAt, StandsSo, setting_of}
+use Rattle.ild_run_document.specs.Document.{begun_in, doc_in, own_in}
+use Rattle.ild_run_document.specs.Passes.{Passes}
 use Rattle.ild_run_document.specs.Turns.{AreAlike, Turns, TurnsTo}
+use Rattle.ild_run_document.specs.declared.document.Document.{Document}
 use Rattle.ild_run_document.proofs.Settings.{begin_on, means_on, of_at, of_same, tests_on}
 
 -- ---- each line but the empty one is due a reply
@@ -97,6 +100,18 @@ stood_so d (Some b) own tests are m M s is x =
 
 pub document_stood : (d : Doc) (b : Option Doc) (own : List (List ℕ)) (m : Moment) (M : Meaning Value) (s : Stage Value) → StandsAt d b own m M s → IsAtState d b M s.state
 document_stood d b own m M s x = stood_so d b own x.tests x.are m M s x.means x.stands
+
+-- what the line leaves, over every store
+pub document_passes : (old new : Document) (m n : Moment) (line : List ℕ) (reply : Option Reply) → Turns id_of (doc_in old) (doc_in new) (begun_in old) (begun_in new) (own_in old) (own_in new) (asked (reads line)) m reply n
+    → Passes old m line reply n new
+document_passes old new m n line reply t = record {
+  table = t.table;
+  type = t.type;
+  kept = λ refusal is. let x = t.kept refusal is in record { block = x.0; begun = x.1 };
+  told = λ tell path is. let x = t.told tell path is in record { block = x.0; begun = x.1 };
+  rooted = t.rooted;
+  blamed = t.blamed;
+}
 
 -- the types are alike, since it is known that they are
 pub alike_of : (d : Doc) (b : Option Doc) → ∥ AreAlike d b ∥₁ → AreAlike d b

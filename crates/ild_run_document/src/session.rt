@@ -13,6 +13,7 @@ impl<'s> Session for Document<'s> {
     ghost use Rattle.ild_schema.specs.declared.row.Row.{Row};
     ghost use Rattle.ild_view_doc.specs.Docs.{table_in, type_in};
     ghost use Rattle.ild_run_document.specs.Document.{begun_in, doc_in, own_in};
+    ghost use Rattle.ild_run_document.specs.Passes.{Passes};
     ghost use Rattle.ild_run_standing.specs.Standing.{IsAtState, StandsAt};
 
     ghost Value = { TypedValue };
@@ -24,6 +25,8 @@ impl<'s> Session for Document<'s> {
     ghost stands = { λ d m M s. StandsAt (doc_in d) (begun_in d) (own_in d) m M s };
 
     ghost is_at = { λ d M s. IsAtState (doc_in d) (begun_in d) M s };
+
+    ghost passes = { λ d m line reply n e. Passes d m line reply n e };
 
     fn answer<K: Store>(&mut self, alloc: Global, line: &[u8], store: &mut K) -> Option<Reply> {
         answer_line(

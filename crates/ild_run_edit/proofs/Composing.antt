@@ -39,7 +39,7 @@ use Rattle.ild_path_room.specs.Room.{by_set, by_insert}
 use Rattle.ild_run_edit.specs.Edits.{edit_of}
 use Rattle.ild_run_edit.specs.inside.Moves.{due_of, edited_by, Moves, MoveAnswer, IsIn, Fails, ComesTo, GoesFrom}
 use Rattle.ild_run_edit.specs.inside.Swaps.{SwapsTo}
-use Rattle.ild_run_edit.specs.inside.Roots.{FindAnswer, PlaceIsFound, FindFails, RootIsMade, MakesRoot}
+use Rattle.ild_run_edit.specs.inside.Roots.{FindAnswer, PlaceIsFound, FindFails, RootFails, RootIsMade, MakesRoot}
 use Rattle.ild_run_standing.specs.Laws.{HeldAreStanding}
 use Rattle.ild_run_standing.specs.Standing.{IsHeldAt, setting_of}
 use Rattle.ild_view_doc.specs.Block.{HasRoot}
@@ -63,7 +63,7 @@ fails_later m k n (Err N.Depth) le f = tt
 fails_later m k n (Err N.Exhausted) le f = tt
 fails_later m k n (Err N.Size) le f = tt
 fails_later m k n (Err N.Reserved) le f = f
-fails_later m k n (Err N.Block) le f = tt
+fails_later m k n (Err N.Block) le f = f
 fails_later m k n (Err N.Store) le f = rose_later m.faults k.faults n.faults le f
 fails_later m k n (Err N.Clash) le f = tt
 fails_later m k n (Err N.Memory) le f = tt
@@ -199,22 +199,41 @@ told_is m told = by m.blocks refl where
   by None e = absurd (told e)
   by (Some held) e = (held, e)
 
-find_no : (m k : Moment) (r : No) → FindFails m (Err r) k → Fails m (Err r) k
-find_no m k N.Line f = f
-find_no m k N.Path f = tt
-find_no m k N.Json f = tt
-find_no m k N.Mismatch f = tt
-find_no m k N.Delimiter f = tt
-find_no m k N.Hole f = tt
-find_no m k N.Depth f = tt
-find_no m k N.Exhausted f = tt
-find_no m k N.Size f = tt
-find_no m k N.Reserved f = f
-find_no m k N.Block f = tt
-find_no m k N.Store f = f
-find_no m k N.Clash f = tt
-find_no m k N.Memory f = tt
-find_no m k N.Batch f = f
+find_no : (h : List ℕ → List ℕ) (d : Doc) (m k : Moment) (r : No) → FindFails h d m (Err r) k → RootFails h d m (Err r) k
+find_no h d m k N.Line f = f
+find_no h d m k N.Path f = tt
+find_no h d m k N.Json f = tt
+find_no h d m k N.Mismatch f = tt
+find_no h d m k N.Delimiter f = tt
+find_no h d m k N.Hole f = tt
+find_no h d m k N.Depth f = tt
+find_no h d m k N.Exhausted f = tt
+find_no h d m k N.Size f = tt
+find_no h d m k N.Reserved f = f
+find_no h d m k N.Block f = f
+find_no h d m k N.Store f = f
+find_no h d m k N.Clash f = tt
+find_no h d m k N.Memory f = tt
+find_no h d m k N.Batch f = f
+
+-- what comes to a place, or goes, blames no block
+root_fails : (h : List ℕ → List ℕ) (d : Doc) (m k : Moment) (r : Result (List ℕ) No) → Fails m r k → RootFails h d m r k
+root_fails h d m k (Ok b) f = tt
+root_fails h d m k (Err N.Line) f = f
+root_fails h d m k (Err N.Path) f = tt
+root_fails h d m k (Err N.Json) f = tt
+root_fails h d m k (Err N.Mismatch) f = tt
+root_fails h d m k (Err N.Delimiter) f = tt
+root_fails h d m k (Err N.Hole) f = tt
+root_fails h d m k (Err N.Depth) f = tt
+root_fails h d m k (Err N.Exhausted) f = tt
+root_fails h d m k (Err N.Size) f = tt
+root_fails h d m k (Err N.Reserved) f = f
+root_fails h d m k (Err N.Block) f = absurd f
+root_fails h d m k (Err N.Store) f = f
+root_fails h d m k (Err N.Clash) f = tt
+root_fails h d m k (Err N.Memory) f = tt
+root_fails h d m k (Err N.Batch) f = f
 
 -- the block of a document is held where what it stands at is
 own_block : (h : List ℕ → List ℕ) (d : Doc) (t : Tests) (m : Moment) (held : List (List ℕ)) (v : Value) → m.blocks ≡ Some held → IsHeldAt h d t m v → block_at held (id_of (block_in d)) ≡ Some (block_in d)
@@ -232,7 +251,7 @@ module _ (standing : HeldAreStanding) (h : List ℕ → List ℕ) (d : Doc) (ver
   pub refused_root : (m k : Moment) (r : No) → PlaceIsFound h d verb path m (Err r) k → MakesRoot h d (edit_of verb path json) m (Err r) k
   refused_root m k r x = record {
     later = x.only.later;
-    fails = find_no m k r x.fails;
+    fails = find_no h d m k r x.fails;
     makes = λ t v tests at.
         let held = told_is m at.at.told in
         let y = x.stands held.0 v held.1 (own_block h d t m held.0 v held.1 at) (standing h d t m held.0 v held.1 at) in
@@ -253,7 +272,7 @@ module _ (standing : HeldAreStanding) (h : List ℕ → List ℕ) (d : Doc) (ver
       let in_doc : All (table_in d) (type_in d) place k r j = subst (λ n. All (table_in d) n place k r j) (of_type_is x.of) (subst (λ rows. All rows (type_at place) place k r j) x.of.table moves) in
       record {
         later = Later-trans m k j x.only.later later;
-        fails = fails_later m k j r x.only.later.faults fails;
+        fails = root_fails h d m j r (fails_later m k j r x.only.later.faults fails);
         makes = λ t v tests at.
             let held = told_is m at.at.told in
             let y = x.stands held.0 v held.1 (own_block h d t m held.0 v held.1 at) (standing h d t m held.0 v held.1 at) in

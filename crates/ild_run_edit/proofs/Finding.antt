@@ -1,10 +1,14 @@
 -- The place of an edit, or why there is none.
 use Rattle.std.proofs.Common.{◌≡◌, ℕ, ◌+◌, ◌≤◌, List, Some, arith}
+use Rattle.std.proofs.Math.Logic.{∥∥₁_map}
 use Rattle.std.specs.Prelude.{IfOk, Result, Ok, Err}
+use Rattle.ild_cbor.specs.declared.why.BlockWhy.{BlockWhy}
 use Rattle.ild_data.specs.Spell.{id_of}
+use Rattle.ild_data.specs.declared.id.BlockId.{BlockId}
 use Rattle.ild_edges.specs.Store.{Moment, block_at}
 use Rattle.ild_open_parts.specs.Reads.{OnlyReads}
 use Rattle.ild_path_place.specs.Places.{LocateAnswer, Locates}
+use Rattle.ild_path_place.specs.Refuses.{RefusesBroken}
 use Rattle.ild_path_place.specs.Rooted.{FailsOnly, IsRootedAt}
 use Rattle.ild_path_place.specs.Parts.{verb_in}
 use Rattle.ild_path_place.specs.Tells.{IsPlaceOf}
@@ -18,6 +22,8 @@ use Rattle.ild_schema.specs.Slots.{plainly}
 use Rattle.ild_schema.specs.Value.{Value}
 use Rattle.ild_typed.specs.At.{InSlot}
 use Rattle.ild_typed.specs.Stands.{Stands, bare}
+use Rattle.ild_run_standing.specs.Blame.{IsBroken}
+use Rattle.ild_view_doc.specs.Block.{IsRootBlock}
 use Rattle.ild_view_doc.specs.Docs.{block_in, table_in, type_in}
 use Rattle.ild_view_doc.specs.declared.doc.Doc.{Doc}
 use Rattle.ild_run_edit.specs.inside.Roots.{FindAnswer, FindFails, PlaceIsFound, no_place}
@@ -48,12 +54,19 @@ module _ (h : List ℕ → List ℕ) (d : Doc) (verb : Verb) (path : List (List 
         record { answer = tell h (table_in d) held (plainly (type_in d), v) path verb place y.answer (rooted held v told own s); gets = one_more _ _ _ y.gets };
   }
 
-  fails_so : (f : PathFault) → FailsOnly {A = Place} m (Err f) n → FindFails m (Err (no_place f)) n
-  fails_so (F.Path k) x = tt
-  fails_so F.Mismatch x = tt
-  fails_so (F.Block id why) x = tt
-  fails_so F.Store x = x
-  fails_so F.Memory x = tt
+  -- a block that is refused is broken, whichever the front of the document's
+  abbrev Blamed : PathFault → Type 0
+  Blamed f = (front : Value) (root : IsRootBlock (table_in d) (type_in d) (block_in d) front) → RefusesBroken {A = Place} h (table_in d) (id_of (block_in d)) 96 (plainly (type_in d)) root.tree m (Err f) n
+
+  broken : (id : BlockId) (why : BlockWhy) → Blamed (F.Block id why) → IsBroken h d m.blocks m.lacks n.lacks
+  broken id why blamed = ∥∥₁_map d.stands (λ r. record { front = r.value; root = r.root; id = id.0; why = why; broken = blamed r.value r.root })
+
+  fails_so : (f : PathFault) → FailsOnly {A = Place} m (Err f) n → Blamed f → FindFails h d m (Err (no_place f)) n
+  fails_so (F.Path k) x blamed = tt
+  fails_so F.Mismatch x blamed = tt
+  fails_so (F.Block id why) x blamed = broken id why blamed
+  fails_so F.Store x blamed = x
+  fails_so F.Memory x blamed = tt
 
   answer_so : (rows : List Row) (was : List (List ℕ)) (p : InSlot) → FaultsRefuse rows p path verb → (f : PathFault) → LocateAnswer h rows was p path verb m (Err f) n → FindAnswer h rows was p path verb m (Err (no_place f)) n
   answer_so rows was p law (F.Path k) a = law.nowhere k a
@@ -62,12 +75,12 @@ module _ (h : List ℕ → List ℕ) (d : Doc) (verb : Verb) (path : List (List 
   answer_so rows was p law F.Store a = a
   answer_so rows was p law F.Memory a = a
 
-  pub finds_none : FaultsAreRefusals → (f : PathFault) → OnlyReads m n → FailsOnly {A = Place} m (Err f) n → Located h d verb path m (Err f) n → PlaceIsFound h d verb path m (Err (no_place f)) n
-  finds_none laws f only failed x = record {
+  pub finds_none : FaultsAreRefusals → (f : PathFault) → OnlyReads m n → FailsOnly {A = Place} m (Err f) n → Blamed f → Located h d verb path m (Err f) n → PlaceIsFound h d verb path m (Err (no_place f)) n
+  finds_none laws f only failed blamed x = record {
     only = only;
     of = tt;
     done = tt;
-    fails = fails_so f failed;
+    fails = fails_so f failed blamed;
     stands = λ held v told own s.
         let y = x held v told own s in
         record { answer = answer_so (table_in d) held (plainly (type_in d), v) (laws (table_in d) (plainly (type_in d), v) path verb) f y.answer; gets = one_more _ _ _ y.gets };

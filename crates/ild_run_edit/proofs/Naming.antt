@@ -17,6 +17,7 @@ use Rattle.ild_schema.specs.Value.{Value}
 use Rattle.ild_schema.specs.declared.number.Slot.{Slot}
 use Rattle.ild_schema.specs.declared.row.Row.{Row}
 use Rattle.ild_script.specs.declared.reply.No.{No}
+use Rattle.ild_view_doc.specs.declared.doc.Doc.{Doc}
 use Rattle.ild_script.specs.declared.reply.No.TheVariants as N
 use Rattle.ild_run_edit.specs.inside.Judges.{IsPartRefusal}
 use Rattle.ild_run_edit.specs.inside.Moves.{PartAnswer, built_fault, done_fault}
@@ -76,8 +77,8 @@ pub part_unclashed : (rows : List Row) (slot : Slot) (json : List ℕ) (r : No) 
 part_unclashed rows slot json r a = unclashed (λ r. PartAnswer rows slot json (Err r)) r a (λ x. x)
 
 -- where there is no place
-pub nowhere_unclashed : (m n : Moment) (r : No) → FindFails m (Err r) n → ◌≡◌ {A = Result (List ℕ) No} (Err r) (Err N.Clash) → ⊥
-nowhere_unclashed m n r f = unclashed (λ r. FindFails m (Err r) n) r f (λ x. x)
+pub nowhere_unclashed : (h : List ℕ → List ℕ) (d : Doc) (m n : Moment) (r : No) → FindFails h d m (Err r) n → ◌≡◌ {A = Result (List ℕ) No} (Err r) (Err N.Clash) → ⊥
+nowhere_unclashed h d m n r f = unclashed (λ r. FindFails h d m (Err r) n) r f (λ x. x)
 
 -- where a part may not come to its place
 pub refused_unclashed : (place : Place) (w : Value) (o : Option No) (r : No) → IsPartRefusal place w o → o ≡ Some r → ◌≡◌ {A = Result (List ℕ) No} (Err r) (Err N.Clash) → ⊥

@@ -5,6 +5,7 @@ use Rattle.std.specs.List.{AllByRecursion}
 use Rattle.std.specs.Option.{option_map_or}
 use Rattle.ild_script_session.proofs.Steps.{told_later}
 use Rattle.ild_data.specs.Spell.{id_of}
+use Rattle.ild_data.specs.declared.id.BlockId.{BlockId}
 use Rattle.ild_edges.specs.Count.{Rose}
 use Rattle.ild_edges.specs.Store.{Moment, Later, Keeps, block_at}
 use Rattle.ild_edges.specs.Told.{BothTold, IfTold}
@@ -15,6 +16,7 @@ use Rattle.ild_script.specs.declared.reply.No.{No}
 use Rattle.ild_script.specs.declared.reply.No.TheVariants as N
 use Rattle.ild_script.specs.declared.reply.Reply.{Reply}
 use Rattle.ild_script.specs.declared.reply.Reply.TheVariants as R
+use Rattle.ild_script_meaning.specs.Ask as L
 use Rattle.ild_script_meaning.specs.Ask.{to_edit}
 use Rattle.ild_script_meaning.specs.Lines.{Setting, typed_lines, due, edit_reply, edit_next}
 use Rattle.ild_script_session.specs.Session.{idle, resting}
@@ -23,11 +25,12 @@ use Rattle.ild_typed.specs.Stands.{Stands, bare, root_id, blocks_of}
 use Rattle.ild_path_edits.specs.Edit.{Edit}
 use Rattle.ild_path_edits.specs.Judged.{Tests}
 use Rattle.ild_run_edit.specs.Edits.{Edits, IsOfEdit, edit_of}
-use Rattle.ild_run_edit.specs.inside.Moves.{Fails, IsNewRoot, due_of, edited_by}
-use Rattle.ild_run_edit.specs.inside.Roots.{RootIsMade, MakesRoot}
+use Rattle.ild_run_edit.specs.inside.Moves.{IsNewRoot, due_of, edited_by}
+use Rattle.ild_run_edit.specs.inside.Roots.{RootFails, RootIsMade, MakesRoot}
 use Rattle.ild_path_place.specs.declared.verb.Verb.{Verb}
 use Rattle.ild_run_edit.proofs.Passing.{itself_passes, told_any, told_both}
 use Rattle.ild_run_standing.specs.Answers.{PassesOn}
+use Rattle.ild_run_standing.specs.Blame.{IsBroken}
 use Rattle.ild_run_standing.specs.Laws.{StandingAreAt}
 use Rattle.ild_run_standing.specs.Standing.{IsHeldAt, setting_of}
 use Rattle.ild_view_doc.specs.Docs.{table_in, type_in, block_in}
@@ -73,28 +76,39 @@ told_is m told = by m.blocks refl where
 root_not_no : (id : _) (r : No) → ◌≡◌ {A = Option Reply} (Some (R.Root id)) (Some (R.No r)) → ⊥
 root_not_no id r e = absurd cc
 
+edit_not_tell : (e : Edit (List ℕ)) (t : L.Tell) (path : List (List ℕ)) → to_edit e ≡ L.to_tell t path → ⊥
+edit_not_tell e t path is = absurd cc
+
+-- roots that are told are told by their ids
+same_root : (i j : BlockId) → ◌≡◌ {A = Option Reply} (Some (R.Root i)) (Some (R.Root j)) → j.0 ≡ i.0
+same_root i j e = cc
+
 no_same : (r s : No) → ◌≡◌ {A = Option Reply} (Some (R.No r)) (Some (R.No s)) → r ≡ s
 no_same r s e = cc
 
-fails_rose : (m n : Moment) (r : No) → Fails m (Err r) n → r ≡ N.Store → Rose m.faults n.faults
-fails_rose m n r f e = subst (λ r. Fails m (Err r) n) e f
+module _ (h : List ℕ → List ℕ) (d : Doc) (m n : Moment) where
+  fails_rose : (r : No) → RootFails h d m (Err r) n → r ≡ N.Store → Rose m.faults n.faults
+  fails_rose r f e = subst (λ r. RootFails h d m (Err r) n) e f
 
-own_no : (m n : Moment) (r : No) → Fails m (Err r) n → IsOfEdit (Err r)
-own_no m n N.Line f = f
-own_no m n N.Path f = tt
-own_no m n N.Json f = tt
-own_no m n N.Mismatch f = tt
-own_no m n N.Delimiter f = tt
-own_no m n N.Hole f = tt
-own_no m n N.Depth f = tt
-own_no m n N.Exhausted f = tt
-own_no m n N.Size f = tt
-own_no m n N.Reserved f = f
-own_no m n N.Block f = tt
-own_no m n N.Store f = tt
-own_no m n N.Clash f = tt
-own_no m n N.Memory f = tt
-own_no m n N.Batch f = f
+  fails_blamed : (r : No) → RootFails h d m (Err r) n → r ≡ N.Block → IsBroken h d m.blocks m.lacks n.lacks
+  fails_blamed r f e = subst (λ r. RootFails h d m (Err r) n) e f
+
+  own_no : (r : No) → RootFails h d m (Err r) n → IsOfEdit (Err r)
+  own_no N.Line f = f
+  own_no N.Path f = tt
+  own_no N.Json f = tt
+  own_no N.Mismatch f = tt
+  own_no N.Delimiter f = tt
+  own_no N.Hole f = tt
+  own_no N.Depth f = tt
+  own_no N.Exhausted f = tt
+  own_no N.Size f = tt
+  own_no N.Reserved f = f
+  own_no N.Block f = tt
+  own_no N.Store f = tt
+  own_no N.Clash f = tt
+  own_no N.Memory f = tt
+  own_no N.Batch f = f
 
 module _ (h : List ℕ → List ℕ) (old : Doc) (e : Edit (List ℕ)) (m n : Moment) (t : Tests) (v : Value) where
   abbrev w : Setting
@@ -125,7 +139,10 @@ refused_edits h d verb path json m n r x = record {
     table = refl;
     type = refl;
     kept = λ s e. refl;
-    failed = λ e. fails_rose m n r x.fails (no_same r N.Store e);
+    told = λ t p e. refl;
+    rooted = λ id told. absurd (root_not_no id r (sym told));
+    failed = λ e. fails_rose h d m n r x.fails (no_same r N.Store e);
+    blamed = λ e. fails_blamed h d m n r x.fails (no_same r N.Block e);
     leads = λ t v tests at. record {
       next = v;
       at = record { told = told_later m n x.later at.at.told; tree = at.at.tree; storable = at.at.storable; block = at.at.block };
@@ -133,7 +150,7 @@ refused_edits h d verb path json m n r x = record {
       passed = told_both m.given n.given (λ now. PassesOn (setting_of h d t) now v v) x.later.given (told_any n.given (λ now. PassesOn (setting_of h d t) now v v) (λ now. itself_passes (setting_of h d t) now v));
     };
   };
-  own = own_no m n r x.fails;
+  own = own_no h d m n r x.fails;
 }
 
 -- ---- the document takes the new block
@@ -192,7 +209,10 @@ done_edits at_standing h old new verb path json m n b table type block x = recor
     table = table;
     type = type;
     kept = λ s e. absurd (root_not_no _ s e);
+    told = λ t p is. absurd (edit_not_tell (edit_of verb path json) t p is);
+    rooted = λ id told. same_root (record { 0 = id_of (block_in new) }) id told;
     failed = λ e. absurd (root_not_no _ N.Store e);
+    blamed = λ e. absurd (root_not_no _ N.Block e);
     leads = λ t v tests at.
         let y = x.makes t v tests at in record {
           next = y.answer.value;

@@ -128,6 +128,7 @@ starts h rows ty m n block d puts doc =
       answer = record {
         table = doc.table;
         type = doc.type;
+        block = empty_block h rows ty has.value has.is.tree has.empty has.is.storable.tree ∙ ap (λ b. b ∷ []) (sym spelled);
         first = λ held told. record {
           value = has.value;
           is = record {

@@ -17,6 +17,7 @@ starts h rows ty root m n d x = record {
   answer = record {
     table = x.answer.table;
     type = x.answer.type;
+    block = x.answer.root;
     first = λ held told.
         let a = from_told n (λ held. (v : Value) × StandsInBlock h rows ty root.0 held (block_in d) v) x.answer.value held told in
         record { value = a.0; is = subst (λ (i : List ℕ). StandsInBlock h rows ty i held (block_in d) a.0) (sym x.answer.root) a.1; from = x.answer.root };

@@ -1,5 +1,5 @@
 -- What opening the document from which a script starts answers, and what it leaves of the store.
-use Rattle.std.specs.Prelude.{◌≡◌, ℕ, ◌+◌, ◌≤◌, List, length, Some, None, Result, Ok, Err}
+use Rattle.std.specs.Prelude.{◌≡◌, ℕ, ◌+◌, ◌≤◌, List, [], ◌∷◌, length, Some, None, Result, Ok, Err}
 use Rattle.ild_cbor.specs.declared.why.BlockWhy.{BlockWhy}
 use Rattle.ild_data.specs.Spell.{id_of}
 use Rattle.ild_edges.specs.Count.{Rose}
@@ -33,10 +33,16 @@ pub record HasFirst (h : List ℕ → List ℕ) (rows : List Row) (ty : TypeNo) 
   pub is : StandsInBlock h rows ty (id_of block) held block value
   pub from : StartsFrom rows ty start (id_of block) value
 
+-- over every store: the block has the root's id, or is the one of the empty value
+abbrev pub IsFirstBlock : (List ℕ → List ℕ) → List Row → TypeNo → Start → List ℕ → Type 0
+IsFirstBlock h rows ty (S.Root root) block = id_of block ≡ root.0
+IsFirstBlock h rows ty S.Empty block = empty_blocks h rows ty ≡ block ∷ []
+
 -- a document of the type, whose value stands in the store, where this tells what it holds
 pub record HasStarted (h : List ℕ → List ℕ) (rows : List Row) (ty : TypeNo) (start : Start) (d : Doc) (n : Moment) : Type 0 where
   pub table : table_in d ≡ rows
   pub type : type_in d ≡ ty
+  pub block : IsFirstBlock h rows ty start (block_in d)
   pub first : (held : List (List ℕ)) → n.blocks ≡ Some held → HasFirst h rows ty start (block_in d) held
 
 -- ---- the causes

@@ -1,7 +1,9 @@
 -- What is told of a part, as the reply that is due.
 use Rattle.std.proofs.Common.{◌≡◌, ◌⊎◌, inl, inr, ℕ, ◌+◌, ◌≤◌, List, [], Option, Some, None, Ok, Err, refl, sym, ap, ◌∙◌, subst, arith}
 use Rattle.ild_data.specs.Data.{Data}
+use Rattle.ild_data.specs.Limits.{deepest}
 use Rattle.ild_data.specs.Seen.{data_of}
+use Rattle.ild_data.specs.declared.id.BlockId.{BlockId}
 use Rattle.ild_data.specs.declared.tree.Tree.{Tree}
 use Rattle.ild_edges.specs.Count.{Rose}
 use Rattle.ild_edges.specs.Store.{Moment}
@@ -10,6 +12,8 @@ use Rattle.ild_script_meaning.specs.Costs.{tell_gets, told_nodes}
 use Rattle.ild_script_meaning.specs.Lines as L
 use Rattle.ild_script_meaning.specs.Lines.{Setting, in_slot, printed, printed_or, read_reply, told_of}
 use Rattle.ild_schema.specs.Value.{Value}
+use Rattle.ild_schema.specs.declared.number.Slot.{Slot}
+use Rattle.ild_schema.specs.declared.row.Row.{Row}
 use Rattle.ild_script.specs.declared.reply.No.TheVariants as N
 use Rattle.ild_script.specs.declared.reply.Reply.{Reply}
 use Rattle.ild_script.specs.declared.reply.Reply.TheVariants as R
@@ -18,12 +22,13 @@ use Rattle.ild_typed.specs.At.{InSlot, at, met}
 use Rattle.ild_view.specs.View.{slot_of, table_of}
 use Rattle.ild_view.specs.declared.view.View.{View}
 use Rattle.ild_run_follow.specs.Tells.{FailsOnly, TellAnswer, TellsFrom, counts, part_nodes}
+use Rattle.ild_run_follow.specs.Refuses.{RefusesBroken}
 use Rattle.ild_run_follow.specs.Told.{told}
 use Rattle.ild_run_follow.specs.declared.fault.ReadFault.{ReadFault}
 use Rattle.ild_run_follow.specs.declared.fault.ReadFault.TheVariants as F
 use Rattle.ild_run_follow.specs.declared.kind.Tell.{Tell}
 use Rattle.ild_run_follow.specs.declared.kind.Tell.TheVariants as T
-use Rattle.ild_run_reads.specs.Replies.{IsAbout, RepliesAs, asked, refusal_of}
+use Rattle.ild_run_reads.specs.Replies.{IsAbout, IsBlamed, RepliesAs, asked, refusal_of}
 
 -- the definitions of lines, and those of what is told
 told_here : (w : Setting) (tell : Tell) (o : Option InSlot) → told_of w (asked tell) o ≡ told w.hash w.rows tell o
@@ -97,3 +102,32 @@ module _ (h : List ℕ → List ℕ) (view : View) (path : List (List ℕ)) (tel
     only = l.only;
     failed = refused_fails e l.failed;
   }
+
+-- ---- no root is told
+
+printed_rootless : (o : Option (List ℕ)) (id : BlockId) → printed_or o ≡ R.Root id → ⊥
+printed_rootless None id e = absurd cc
+printed_rootless (Some text) id e = absurd cc
+
+pub told_rootless : (d : Data) (reply : Reply) (id : BlockId) → (reply ≡ printed d) ⊎ (reply ≡ R.No N.Memory) → reply ≡ R.Root id → ⊥
+told_rootless d reply id (inl is) e = printed_rootless (json_text d) id (sym is ∙ e)
+told_rootless d reply id (inr is) e = let x : R.No N.Memory ≡ R.Root id = sym is ∙ e in absurd cc
+
+-- ---- a block is blamed
+
+printed_unblamed : (o : Option (List ℕ)) → printed_or o ≡ R.No N.Block → ⊥
+printed_unblamed None e = absurd cc
+printed_unblamed (Some text) e = absurd cc
+
+-- data that are printed blame none
+pub told_unblamed : (d : Data) (reply : Reply) → (reply ≡ printed d) ⊎ (reply ≡ R.No N.Memory) → reply ≡ R.No N.Block → ⊥
+told_unblamed d reply (inl is) e = printed_unblamed (json_text d) (sym is ∙ e)
+told_unblamed d reply (inr is) e = let x : R.No N.Memory ≡ R.No N.Block = sym is ∙ e in absurd cc
+
+-- a fault that blames one has its cause
+pub refused_blames : (h : List ℕ → List ℕ) (rows : List Row) (at : List ℕ) (s : Slot) (t : Data) (m n : Moment) (e : ReadFault) → RefusesBroken {A = Tree} h rows at deepest s t m (Err e) n
+    → R.No (refusal_of e) ≡ R.No N.Block → IsBlamed h rows m.blocks m.lacks n.lacks at s t
+refused_blames h rows at s t m n F.Path x is = absurd cc
+refused_blames h rows at s t m n (F.Block id why) x is = record { id = id.0; why = why; broken = x }
+refused_blames h rows at s t m n F.Store x is = absurd cc
+refused_blames h rows at s t m n F.Memory x is = absurd cc

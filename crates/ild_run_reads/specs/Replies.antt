@@ -1,14 +1,19 @@
 -- What a read of the value at a view is answered: the reply due on the plain value, or a refusal for a cause that is there.
-use Rattle.std.specs.Prelude.{◌≡◌, ◌⊎◌, ℕ, ◌+◌, ◌≤◌, List, [], Some}
+use Rattle.std.specs.Prelude.{◌≡◌, ◌⊎◌, ℕ, ◌+◌, ◌≤◌, List, [], Option, Some}
+use Rattle.ild_cbor.specs.declared.why.BlockWhy.{BlockWhy}
 use Rattle.ild_data.specs.Data.{Data}
+use Rattle.ild_data.specs.Limits.{deepest}
 use Rattle.ild_edges.specs.Count.{Rose}
 use Rattle.ild_edges.specs.Store.{Moment}
+use Rattle.ild_open_parts.specs.Broken.{HasBrokenBlock}
 use Rattle.ild_open_parts.specs.Reads.{OnlyReads}
 use Rattle.ild_script_meaning.specs.Ask as L
 use Rattle.ild_script_meaning.specs.Costs.{tell_gets}
 use Rattle.ild_script_meaning.specs.Lines.{Setting, in_slot, read_reply}
 use Rattle.ild_schema.specs.Slots.{plainly}
 use Rattle.ild_schema.specs.Value.{Value}
+use Rattle.ild_schema.specs.declared.number.Slot.{Slot}
+use Rattle.ild_schema.specs.declared.row.Row.{Row}
 use Rattle.ild_script.specs.declared.reply.No.{No}
 use Rattle.ild_script.specs.declared.reply.No.TheVariants as N
 use Rattle.ild_script.specs.declared.reply.Reply.{Reply}
@@ -49,3 +54,9 @@ pub record RepliesAs (h : List ℕ → List ℕ) (view : View) (path : List (Lis
   pub gets : (w : Setting) (t : Data) (v : Value) → IsAbout h w view → ViewIsHeld h view m t v → n.gets + 1 ≤ m.gets + tell_gets w.hash w.rows (asked tell) (in_slot w v) path
   pub only : OnlyReads m n
   pub failed : reply ≡ R.No N.Store → Rose m.faults n.faults
+
+-- of data of a slot that stand in the block `at`, one block is broken of those that hang on them
+pub record IsBlamed (h : List ℕ → List ℕ) (rows : List Row) (told : Option (List (List ℕ))) (before now : ℕ) (at : List ℕ) (s : Slot) (t : Data) : Type 0 where
+  pub id : List ℕ
+  pub why : BlockWhy
+  pub broken : HasBrokenBlock h rows told before now at deepest s t id why

@@ -28,6 +28,9 @@ use Rattle.ild_run_open.specs.Starts.{HasFirst, HasStarted, Starts, Asks}
 use Rattle.ild_run_open.specs.declared.start.Start.{Start}
 use Rattle.ild_run_open.specs.declared.start.Start.TheVariants as S
 use Rattle.ild_run_open.specs.declared.start.StartFault.{StartFault}
+use Rattle.ild_run_document.specs.Document.{begun_in, doc_in, own_in}
+use Rattle.ild_run_document.specs.Passes.{Passes}
+use Rattle.ild_run_document.specs.declared.document.Document.{Document}
 use Rattle.ild_run_standing.specs.Laws.{StandingAreAt, HeldAreStanding}
 use Rattle.ild_run_standing.specs.Standing.{IsHeldAt, IsInBatch, StandsAt, StandsSo, setting_of}
 use Rattle.ild_run_standing.proofs.Held.{kept_are_standing}
@@ -131,15 +134,19 @@ module _ (law : StandingAreAt) (back : HeldAreStanding) (rows : List Row) (ty : 
 -- ---- the script
 
 module _ (law : StandingAreAt) (back : HeldAreStanding) (rows : List Row) (ty : TypeNo) (start : Start) (script : List ℕ) (d : Doc) (m k n : Moment) (was now : Output) (starts : Starts id_of rows ty start m (Ok d) k) where
-  answers : (lines : List (List ℕ)) (replies : List Reply) (e : Doc) (begun : Option Doc) (own : List (List ℕ)) → table_in e ≡ table_in d → type_in e ≡ type_in d → AreAnswered k lines replies n → Later k n
-      → ((M : Meaning Value) (s : Stage Value) → StandsAt d None [] k M s → Ran M (StandsAt e begun own n M) k s lines replies n) → Answers rows ty start m lines replies n
-  answers lines replies e begun own table type answered later ran = record {
+  answers : (lines : List (List ℕ)) (replies : List Reply) (x e : Document) → doc_in x ≡ d → begun_in x ≡ None → table_in (doc_in e) ≡ table_in d → type_in (doc_in e) ≡ type_in d → AreAnswered Passes x k lines replies n e → Later k n
+      → ((M : Meaning Value) (s : Stage Value) → StandsAt d None [] k M s → Ran M (StandsAt (doc_in e) (begun_in e) (own_in e) n M) k s lines replies n) → Answers rows ty start m lines replies n
+  answers lines replies x e is out table type answered later ran = record {
     opened = k;
     asks = starts.asks;
     block = block_in d;
+    first = starts.answer.block;
+    session = x;
+    starts = record { table = ap table_in is ∙ starts.answer.table; type = ap type_in is ∙ starts.answer.type; block_is = ap block_in is; outside = out };
+    after = e;
     answered = answered;
     later = later;
-    from = λ held tests told are. answers_from law back rows ty start d k starts.answer tests are held told e begun own table type m n lines replies starts.asks
+    from = λ held tests told are. answers_from law back rows ty start d k starts.answer tests are held told (doc_in e) (begun_in e) (own_in e) table type m n lines replies starts.asks
         (ran (lines_on rows ty tests) (resting (starts.answer.first held told).value) (stands_at law back rows ty start d k starts.answer tests are held told));
   }
 
@@ -149,7 +156,7 @@ module _ (law : StandingAreAt) (back : HeldAreStanding) (rows : List Row) (ty : 
       record {
         answer = record {
           replies = lines.replies;
-          answered = answers (lines_of script) lines.replies done.after done.begun done.own done.table done.type lines.answered lines.later lines.ran;
+          answered = answers (lines_of script) lines.replies done.from done.after done.is done.out done.table done.type lines.answered lines.later lines.ran;
           written = lines.written;
           refused_is = lines.refused_is;
         };
@@ -165,7 +172,7 @@ module _ (law : StandingAreAt) (back : HeldAreStanding) (rows : List Row) (ty : 
         rest = lines.rest;
         lines = lines.split;
         replies = lines.replies;
-        answered = answers lines.first lines.replies cut.after cut.begun cut.own cut.table cut.type lines.answered lines.later lines.ran;
+        answered = answers lines.first lines.replies cut.from cut.after cut.is cut.out cut.table cut.type lines.answered lines.later lines.ran;
         written = lines.written;
       }
 
@@ -190,22 +197,26 @@ scripts_stopped rows ty start script f m n was starts = record {
 
 -- ---- the lines of a session
 
-module _ (c d e : Doc) (b begun : Option Doc) (o own : List (List ℕ)) (same : c ≡ d) (out : b ≡ None) (none : o ≡ []) (kept : ◌≡◌ {A = List Row × TypeNo} (table_in e, type_in e) (table_in c, type_in c))
+module _ (x e : Document) (d : Doc) (same : doc_in x ≡ d) (out : begun_in x ≡ None) (none : own_in x ≡ []) (kept : ◌≡◌ {A = List Row × TypeNo} (table_in (doc_in e), type_in (doc_in e)) (table_in (doc_in x), type_in (doc_in x)))
     (m : Moment) (lines : List (List ℕ)) (n : Moment) (was now : Option (List ℕ)) where
-  table : table_in e ≡ table_in d
+  table : table_in (doc_in e) ≡ table_in d
   table = ap (λ p. p.0) kept ∙ ap table_in same
 
-  type : type_in e ≡ type_in d
+  type : type_in (doc_in e) ≡ type_in d
   type = ap (λ p. p.1) kept ∙ ap type_in same
 
   -- from the document itself, outside any batch
-  from : (P : (Meaning Value → Stage Value → Type 0) → Type 0) → P (StandsAt c b o m) → P (StandsAt d None [] m)
-  from P x = subst (λ z. P (StandsAt d None z m)) none (subst (λ z. P (StandsAt d z o m)) out (subst (λ z. P (StandsAt z b o m)) same x))
+  from : (P : (Meaning Value → Stage Value → Type 0) → Type 0) → P (StandsAt (doc_in x) (begun_in x) (own_in x) m) → P (StandsAt d None [] m)
+  from P p = subst (λ z. P (StandsAt d None z m)) none (subst (λ z. P (StandsAt d z (own_in x) m)) out (subst (λ z. P (StandsAt z (begun_in x) (own_in x) m)) same p))
 
-  pub lines_done : (r : Result Bool Cut) → IfOk r (λ refused. LinesDone (StandsAt c b o m) (StandsAt e begun own n) m lines n was now refused) → IfOk r (λ refused. DocDone d m lines n was now refused)
-  lines_done (Ok refused) done = record { after = e; begun = begun; own = own; table = table; type = type; done = from (λ S. LinesDone S (StandsAt e begun own n) m lines n was now refused) done }
+  -- where the session stands then
+  abbrev Then : Meaning Value → Stage Value → Type 0
+  Then = StandsAt (doc_in e) (begun_in e) (own_in e) n
+
+  pub lines_done : (r : Result Bool Cut) → IfOk r (λ refused. LinesDone (StandsAt (doc_in x) (begun_in x) (own_in x) m) Then Passes x e m lines n was now refused) → IfOk r (λ refused. DocDone d m lines n was now refused)
+  lines_done (Ok refused) done = record { from = x; is = same; out = out; after = e; table = table; type = type; done = from (λ S. LinesDone S Then Passes x e m lines n was now refused) done }
   lines_done (Err cut) done = tt
 
-  pub lines_cut : (r : Result Bool Cut) → OnErr r (LinesCut (StandsAt c b o m) (StandsAt e begun own n) m lines n was now) → OnErr r (DocCut d m lines n was now)
+  pub lines_cut : (r : Result Bool Cut) → OnErr r (LinesCut (StandsAt (doc_in x) (begun_in x) (own_in x) m) Then Passes x e m lines n was now) → OnErr r (DocCut d m lines n was now)
   lines_cut (Ok refused) part = tt
-  lines_cut (Err cut) part = record { after = e; begun = begun; own = own; table = table; type = type; done = from (λ S. LinesCut S (StandsAt e begun own n) m lines n was now) part }
+  lines_cut (Err cut) part = record { from = x; is = same; out = out; after = e; table = table; type = type; done = from (λ S. LinesCut S Then Passes x e m lines n was now) part }

@@ -1,5 +1,5 @@
 -- What running a script on the value of a type answers, and what it leaves of the store (IPLD Schemas; IPLD HashMap; DAG-CBOR).
-use Rattle.std.specs.Prelude.{◌≡◌, ℕ, ◌+◌, ◌≤◌, List, ◌++◌, length, Bool, Some, Result, Ok, Err}
+use Rattle.std.specs.Prelude.{◌≡◌, ℕ, ◌+◌, ◌≤◌, List, ◌++◌, length, Bool, None, Some, Result, Ok, Err}
 use Rattle.std.specs.List.{list_any}
 use Rattle.ild_data.specs.Spell.{id_of}
 use Rattle.ild_edges.specs.Count.{Rose}
@@ -20,7 +20,11 @@ use Rattle.ild_script_session.specs.Stands.{AreAnswered}
 use Rattle.ild_script_session.specs.Step.{Carries}
 use Rattle.ild_script_session.specs.declared.cut.Cut.TheVariants as C
 use Rattle.ild_typed.specs.Stands.{bare, blocks_of, Stands}
-use Rattle.ild_run_open.specs.Starts.{HasFirst, Stops, Asks}
+use Rattle.ild_view_doc.specs.Docs.{block_in, table_in, type_in}
+use Rattle.ild_run_document.specs.Document.{begun_in, doc_in}
+use Rattle.ild_run_document.specs.Passes.{Passes}
+use Rattle.ild_run_document.specs.declared.document.Document.{Document}
+use Rattle.ild_run_open.specs.Starts.{HasFirst, IsFirstBlock, Stops, Asks}
 use Rattle.ild_run_open.specs.declared.start.Start.{Start}
 use Rattle.ild_run_open.specs.declared.start.Start.TheVariants as S
 use Rattle.ild_run_script.specs.declared.fault.ScriptFault.{ScriptFault}
@@ -65,13 +69,24 @@ module _ (rows : List Row) (ty : TypeNo) (start : Start) where
         + most_gets (lines_on rows ty tests) opened (resting first.value) lines replies n last run)
     pub puts : n.puts ≤ m.puts + (start_puts start + most_puts (lines_on rows ty tests) opened (resting first.value) lines replies n last run)
 
-  -- The document was opened, which has this block, and these lines were answered. Where the store tells what it holds, they are answered
-  -- from the value that stands there, by whichever tests of the table.
+  -- A session outside any batch, over the document that was opened.
+  pub record StartsAs (block : List ℕ) (session : Document) : Type 0 where
+    pub table : table_in (doc_in session) ≡ rows
+    pub type : type_in (doc_in session) ≡ ty
+    pub block_is : block_in (doc_in session) ≡ block
+    pub outside : begun_in session ≡ None
+
+  -- The document was opened, which has this block, and these lines were answered, each from where the one before left the session. Where the
+  -- store tells what it holds, they are answered from the value that stands there, by whichever tests of the table.
   pub record Answers (m : Moment) (lines : List (List ℕ)) (replies : List Reply) (n : Moment) : Type 0 where
     pub opened : Moment
     pub asks : Asks id_of rows ty start m opened
     pub block : List ℕ
-    pub answered : AreAnswered opened lines replies n
+    pub first : IsFirstBlock id_of rows ty start block
+    pub session : Document
+    pub starts : StartsAs block session
+    pub after : Document
+    pub answered : AreAnswered Passes session opened lines replies n after
     pub later : Later opened n
     pub from : (held : List (List ℕ)) (tests : Tests) → opened.blocks ≡ Some held → AreTests rows tests → AnswersFrom tests block held m opened lines replies n
 

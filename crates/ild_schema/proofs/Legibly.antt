@@ -29,7 +29,7 @@ use Rattle.ild_schema.specs.DataKinds.{same_kind}
 use Rattle.ild_schema.specs.Delimiters.{is_empty, occurs, are_poor, is_poor_struct, is_poor_map}
 use Rattle.ild_schema.specs.Delims.{HasDelims, MapDelims, Delims}
 use Rattle.ild_schema.specs.Fitting.{ImplicitFits, FittingType}
-use Rattle.ild_schema.specs.Hex.{bytes_of_hex}
+use Rattle.ild_data.specs.Hex.{bytes_of_hex}
 use Rattle.ild_schema.specs.Kinds.{has_only, has_text_form, kinds_of, meant}
 use Rattle.ild_schema.specs.Legible.{AcceptedAreLegible}
 use Rattle.ild_schema.specs.Made.{HasOnly, IsTextSlot, MadeStruct, MadeMap, IsInlined, MadeMember, MadeEnum, MadeType}

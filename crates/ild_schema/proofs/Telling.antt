@@ -18,7 +18,7 @@ use Rattle.ild_schema.specs.declared.row.Row.{Row}
 use Rattle.ild_schema.specs.Clashes.{are_same, are_equal, discriminant_of, is_field_again, is_key_taken, is_member_again, is_same_value, is_value_again}
 use Rattle.ild_schema.specs.DataKinds as asked
 use Rattle.ild_schema.specs.DataKinds.{same_kind}
-use Rattle.ild_schema.specs.Hex.{bytes_of_hex}
+use Rattle.ild_data.specs.Hex.{bytes_of_hex}
 use Rattle.ild_schema.specs.Kinds.{has_kind, has_only, declared_kinds, kinds_of}
 use Rattle.ild_schema.specs.Marks.{mark_text, mark_kind, is_marked, is_valued, field_text}
 use Rattle.ild_schema.specs.Places.{first_place, first_beside}

@@ -20,7 +20,7 @@ use Rattle.ild_schema.specs.declared.def.EnumMember.{EnumMember}
 use Rattle.ild_schema.specs.declared.row.Row.{Row}
 use Rattle.ild_schema.specs.Table.{def_at}
 use Rattle.ild_schema.specs.DataKinds.{same_kind, slot_has}
-use Rattle.ild_schema.specs.Hex.{bytes_of_hex}
+use Rattle.ild_data.specs.Hex.{bytes_of_hex}
 use Rattle.ild_schema.specs.Marks.{mark_text, mark_kind, field_text, member_text, member_integer}
 use Rattle.ild_schema.specs.Prefixes.{begins}
 

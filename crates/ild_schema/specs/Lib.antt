@@ -7,8 +7,6 @@ pub mod Table
 pub mod Kinds
 pub mod Places
 pub mod Marks
-pub mod Hex
-pub mod Decimal
 pub mod Delimiters
 pub mod Prefixes
 pub mod Clashes

@@ -11,7 +11,7 @@ use Rattle.ild_schema.specs.declared.def.Member.{Member}
 use Rattle.ild_schema.specs.declared.def.Mark.{Mark}
 use Rattle.ild_schema.specs.declared.def.Mark.TheVariants as K
 use Rattle.ild_schema.specs.declared.def.KindWord.{KindWord}
-use Rattle.ild_schema.specs.Decimal.{decimal_of}
+use Rattle.ild_data.specs.Decimal.{decimal_of}
 
 abbrev pub mark_text : Mark → Option (List ℕ)
 mark_text (K.Text t) = Some t

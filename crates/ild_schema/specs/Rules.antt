@@ -20,7 +20,7 @@ use Rattle.ild_schema.specs.declared.def.Member.{Member}
 use Rattle.ild_schema.specs.declared.def.KindWord.TheVariants as W
 use Rattle.ild_schema.specs.declared.number.Slot.{Slot}
 use Rattle.ild_schema.specs.declared.row.Row.{Row}
-use Rattle.ild_schema.specs.Hex.{bytes_of_hex}
+use Rattle.ild_data.specs.Hex.{bytes_of_hex}
 use Rattle.ild_schema.specs.Kinds.{kinds_of, meant, has_kind, has_only, has_text_form, declared_kinds}
 use Rattle.ild_schema.specs.Marks.{mark_text, mark_kind, member_integer}
 use Rattle.ild_schema.specs.Places.{first_place, first_beside, place_if}

@@ -30,54 +30,63 @@ Run-push M m s (k ∷ ls) rs n t l r o u run step =
     (run.0, run.1, run.2, run.3 ++ cons_option r [], run.4, ap (λ xs. xs ++ cons_option r []) run.5 ∙ cons_option-append run.0 run.3 (cons_option r []), Run-push M run.2 run.1 ls run.3 n t l r o u run.6 step)
 
 -- and over each store
-AreAnswered-push : (m : Moment) (ls : List (List ℕ)) (rs : List Reply) (n : Moment) (l : List ℕ) (r : Option Reply) (o : Moment)
-    → AreAnswered m ls rs n → IsAnswered n l r o → AreAnswered m (ls ++ l ∷ []) (rs ++ cons_option r []) o
-AreAnswered-push m [] rs n l r o are one =
+AreAnswered-push : {S : Type 0} (Passes : S → Moment → List ℕ → Option Reply → Moment → S → Type 0) (a : S) (m : Moment) (ls : List (List ℕ)) (rs : List Reply) (n : Moment) (b : S) (l : List ℕ) (r : Option Reply) (o : Moment) (c : S)
+    → AreAnswered Passes a m ls rs n b → IsAnswered n l r o → Passes b n l r o c → AreAnswered Passes a m (ls ++ l ∷ []) (rs ++ cons_option r []) o c
+AreAnswered-push Passes a m [] rs n b l r o c are one passed =
     let here : IsAnswered m l r o = subst (λ (k : Moment). IsAnswered k l r o) are.1 one in
-    (r, o, [], here, ap (λ xs. xs ++ cons_option r []) are.0, (refl, refl))
-AreAnswered-push m (k ∷ ls) rs n l r o are one =
-    (are.0, are.1, are.2 ++ cons_option r [], are.3, ap (λ xs. xs ++ cons_option r []) are.4 ∙ cons_option-append are.0 are.2 (cons_option r []), AreAnswered-push are.1 ls are.2 n l r o are.5 one)
+    let there : Passes a m l r o c = subst (λ k. Passes k m l r o c) are.2 (subst (λ (k : Moment). Passes b k l r o c) are.1 passed) in
+    (r, c, o, [], here, there, ap (λ xs. xs ++ cons_option r []) are.0, (refl, refl, refl))
+AreAnswered-push Passes a m (k ∷ ls) rs n b l r o c are one passed = (
+  are.0,
+  are.1,
+  are.2,
+  are.3 ++ cons_option r [],
+  are.4,
+  are.5,
+  ap (λ xs. xs ++ cons_option r []) are.6 ∙ cons_option-append are.0 are.3 (cons_option r []),
+  AreAnswered-push Passes are.1 are.2 ls are.3 n b l r o c are.7 one passed,
+)
 
-module _ {V : Type 0} (Stood : Meaning V → Stage V → Type 0) where
+module _ {V S : Type 0} (Stood : Meaning V → Stage V → Type 0) (Passes : S → Moment → List ℕ → Option Reply → Moment → S → Type 0) (at : S) where
   -- one line more from each stage at which the session stood
   ran_more : (M : Meaning V) (Stands Then : Stage V → Type 0) (m : Moment) (s : Stage V) (ls : List (List ℕ)) (rs : List Reply) (n : Moment) (l : List ℕ) (r : Option Reply) (o : Moment)
       → Ran M Stands m s ls rs n → ((t : Stage V) → Stands t → Leads M Then n t l r o) → Ran M Then m s (ls ++ l ∷ []) (rs ++ cons_option r []) o
   ran_more M Stands Then m s ls rs n l r o ran one = let next = one ran.stage ran.stands in record {
     stage = next.stage;
     run = Run-push M m s ls rs n ran.stage l r o next.stage ran.run next.step;
-    carries = λ h. let at = ran.carries h in (next.step.replies at).carries at;
+    carries = λ h. let x = ran.carries h in (next.step.replies x).carries x;
     stands = next.stands;
   }
 
   -- the lines answered so far, and those that are left
-  pub record SoFar (Stands : Meaning V → Stage V → Type 0) (lines left : List (List ℕ)) (m n : Moment) (was now : Option (List ℕ)) (refused : Bool) : Type 0 where
+  pub record SoFar (Stands : Meaning V → Stage V → Type 0) (to : S) (lines left : List (List ℕ)) (m n : Moment) (was now : Option (List ℕ)) (refused : Bool) : Type 0 where
     pub first : List (List ℕ)
     pub split : lines ≡ first ++ left
-    pub done : LinesDone Stood Stands m first n was now refused
+    pub done : LinesDone Stood Stands Passes at to m first n was now refused
 
-  pub so_far_none : (lines : List (List ℕ)) (m : Moment) (was : Option (List ℕ)) → SoFar Stood lines lines m m was was false
+  pub so_far_none : (lines : List (List ℕ)) (m : Moment) (was : Option (List ℕ)) → SoFar Stood at lines lines m m was was false
   so_far_none lines m was = record {
     first = [];
     split = refl;
     done = record {
       replies = [];
-      answered = (refl, refl);
-      ran = λ M s at. record { stage = s; run = (refl, refl, refl); carries = λ h. h; stands = at };
+      answered = (refl, refl, refl);
+      ran = λ M s x. record { stage = s; run = (refl, refl, refl); carries = λ h. h; stands = x };
       later = Later-refl m;
       written = appends_none was;
       refused_is = refl;
     };
   }
 
-  pub so_far_more : (Stands Then : Meaning V → Stage V → Type 0) (lines : List (List ℕ)) (l : List ℕ) (left both : List (List ℕ)) (m n o : Moment) (a b c : Option (List ℕ)) (p q : Bool)
-      → SoFar Stands lines both m n a b p → both ≡ l ∷ left → LineDone Stands Then n l o b c q → SoFar Then lines left m o a c (p || q)
-  so_far_more Stands Then lines l left both m n o a b c p q so cut one = record {
+  pub so_far_more : (Stands Then : Meaning V → Stage V → Type 0) (to then : S) (lines : List (List ℕ)) (l : List ℕ) (left both : List (List ℕ)) (m n o : Moment) (a b c : Option (List ℕ)) (p q : Bool)
+      → SoFar Stands to lines both m n a b p → both ≡ l ∷ left → LineDone Stands Then Passes to then n l o b c q → SoFar Then then lines left m o a c (p || q)
+  so_far_more Stands Then to then lines l left both m n o a b c p q so cut one = record {
     first = so.first ++ l ∷ [];
     split = so.split ∙ ap (λ ls. so.first ++ ls) cut ∙ sym (append_assoc so.first (l ∷ []) left);
     done = record {
       replies = so.done.replies ++ cons_option one.reply [];
-      answered = AreAnswered-push m so.first so.done.replies n l one.reply o so.done.answered one.answered;
-      ran = λ M s at. ran_more M (Stands M) (Then M) m s so.first so.done.replies n l one.reply o (so.done.ran M s at) (one.leads M);
+      answered = AreAnswered-push Passes at m so.first so.done.replies n to l one.reply o then so.done.answered one.answered one.passed;
+      ran = λ M s x. ran_more M (Stands M) (Then M) m s so.first so.done.replies n l one.reply o (so.done.ran M s x) (one.leads M);
       later = Later-trans m n o so.done.later one.answered.later;
       written = subst (Appends a c) (sym (flat_map-append reply_text so.done.replies (cons_option one.reply []))) (appends_then a b c _ _ so.done.written one.written);
       refused_is = ap (λ x. x || q) so.done.refused_is ∙ ap (λ x. list_any is_no so.done.replies || x) one.refused_is ∙ sym (list_any-append is_no so.done.replies (cons_option one.reply []));
@@ -85,19 +94,19 @@ module _ {V : Type 0} (Stood : Meaning V → Stage V → Type 0) where
   }
 
   -- a line that was answered, and not wholly written
-  pub so_far_cut : (Stands Then : Meaning V → Stage V → Type 0) (lines : List (List ℕ)) (l : List ℕ) (left both : List (List ℕ)) (m n o : Moment) (a b c : Option (List ℕ)) (p : Bool)
-      → SoFar Stands lines both m n a b p → both ≡ l ∷ left → LineCut Stands Then n l o b c → LinesCut Stood Then m lines o a c
-  so_far_cut Stands Then lines l left both m n o a b c p so cut one = record {
+  pub so_far_cut : (Stands Then : Meaning V → Stage V → Type 0) (to then : S) (lines : List (List ℕ)) (l : List ℕ) (left both : List (List ℕ)) (m n o : Moment) (a b c : Option (List ℕ)) (p : Bool)
+      → SoFar Stands to lines both m n a b p → both ≡ l ∷ left → LineCut Stands Then Passes to then n l o b c → LinesCut Stood Then Passes at then m lines o a c
+  so_far_cut Stands Then to then lines l left both m n o a b c p so cut one = record {
     first = so.first ++ l ∷ [];
     rest = left;
     split = so.split ∙ ap (λ ls. so.first ++ ls) cut ∙ sym (append_assoc so.first (l ∷ []) left);
     replies = so.done.replies ++ one.reply ∷ [];
-    answered = AreAnswered-push m so.first so.done.replies n l (Some one.reply) o so.done.answered one.answered;
-    ran = λ M s at. ran_more M (Stands M) (Then M) m s so.first so.done.replies n l (Some one.reply) o (so.done.ran M s at) (one.leads M);
+    answered = AreAnswered-push Passes at m so.first so.done.replies n to l (Some one.reply) o then so.done.answered one.answered one.passed;
+    ran = λ M s x. ran_more M (Stands M) (Then M) m s so.first so.done.replies n l (Some one.reply) o (so.done.ran M s x) (one.leads M);
     later = Later-trans m n o so.done.later one.answered.later;
     written = subst (AppendsFront a c) (sym (flat_map-append reply_text so.done.replies (one.reply ∷ []) ∙ ap (λ xs. texts so.done.replies ++ xs) (append-nil (reply_text one.reply)))) (front_then a b c _ _ so.done.written one.written);
   }
 
   -- all lines
-  pub so_far_all : (Stands : Meaning V → Stage V → Type 0) (lines : List (List ℕ)) (m n : Moment) (a b : Option (List ℕ)) (p : Bool) → SoFar Stands lines [] m n a b p → LinesDone Stood Stands m lines n a b p
-  so_far_all Stands lines m n a b p so = subst (λ (ls : List (List ℕ)). LinesDone Stood Stands m ls n a b p) (sym (so.split ∙ append-nil so.first)) so.done
+  pub so_far_all : (Stands : Meaning V → Stage V → Type 0) (to : S) (lines : List (List ℕ)) (m n : Moment) (a b : Option (List ℕ)) (p : Bool) → SoFar Stands to lines [] m n a b p → LinesDone Stood Stands Passes at to m lines n a b p
+  so_far_all Stands to lines m n a b p so = subst (λ (ls : List (List ℕ)). LinesDone Stood Stands Passes at to m ls n a b p) (sym (so.split ∙ append-nil so.first)) so.done

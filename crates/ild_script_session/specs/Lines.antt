@@ -20,12 +20,14 @@ abbrev pub bytes_left : Option (Bor (List ℕ)) → ℕ
 bytes_left None = 0
 bytes_left (Some b) = length b.now + 1
 
--- Of which meanings and at which stages the session stood, and stands, is what `Stood` and `Stands` say.
-module _ {V : Type 0} (Stood Stands : Meaning V → Stage V → Type 0) where
+-- Of which meanings and at which stages the session stood, and stands, is what `Stood` and `Stands` say; what a line leaves by its reply,
+-- from a session to the one that goes on, is what `Passes` says.
+module _ {V S : Type 0} (Stood Stands : Meaning V → Stage V → Type 0) (Passes : S → Moment → List ℕ → Option Reply → Moment → S → Type 0) (a b : S) where
   -- a line was answered, and its reply written
   pub record LineDone (m : Moment) (line : List ℕ) (n : Moment) (was now : Option (List ℕ)) (refused : Bool) : Type 0 where
     pub reply : Option Reply
     pub answered : IsAnswered m line reply n
+    pub passed : Passes a m line reply n b
     pub leads : (M : Meaning V) (s : Stage V) → Stood M s → Leads M (Stands M) m s line reply n
     pub written : Appends was now (texts (cons_option reply []))
     pub refused_is : refused ≡ list_any is_no (cons_option reply [])
@@ -34,13 +36,14 @@ module _ {V : Type 0} (Stood Stands : Meaning V → Stage V → Type 0) where
   pub record LineCut (m : Moment) (line : List ℕ) (n : Moment) (was now : Option (List ℕ)) : Type 0 where
     pub reply : Reply
     pub answered : IsAnswered m line (Some reply) n
+    pub passed : Passes a m line (Some reply) n b
     pub leads : (M : Meaning V) (s : Stage V) → Stood M s → Leads M (Stands M) m s line (Some reply) n
     pub written : AppendsFront was now (reply_text reply)
 
   -- these lines were answered, and their replies written
   pub record LinesDone (m : Moment) (lines : List (List ℕ)) (n : Moment) (was now : Option (List ℕ)) (refused : Bool) : Type 0 where
     pub replies : List Reply
-    pub answered : AreAnswered m lines replies n
+    pub answered : AreAnswered Passes a m lines replies n b
     pub ran : (M : Meaning V) (s : Stage V) → Stood M s → Ran M (Stands M) m s lines replies n
     pub later : Later m n
     pub written : Appends was now (texts replies)
@@ -52,21 +55,25 @@ module _ {V : Type 0} (Stood Stands : Meaning V → Stage V → Type 0) where
     pub rest : List (List ℕ)
     pub split : lines ≡ first ++ rest
     pub replies : List Reply
-    pub answered : AreAnswered m first replies n
+    pub answered : AreAnswered Passes a m first replies n b
     pub ran : (M : Meaning V) (s : Stage V) → Stood M s → Ran M (Stands M) m s first replies n
     pub later : Later m n
     pub written : AppendsFront was now (texts replies)
 
 -- ---- the same where what `Stood` and `Stands` say goes by what the store holds, at each of the two moments
 
-abbrev pub AnswersLine : {V : Type 0} (Stood Stands : Moment → Meaning V → Stage V → Type 0) → Moment → List ℕ → Moment → Option (List ℕ) → Option (List ℕ) → Bool → Type 0
-AnswersLine Stood Stands m line n was now refused = LineDone (Stood m) (Stands n) m line n was now refused
+abbrev pub AnswersLine : {V S : Type 0} (Stood Stands : Moment → Meaning V → Stage V → Type 0) (Passes : S → Moment → List ℕ → Option Reply → Moment → S → Type 0) → S → S
+    → Moment → List ℕ → Moment → Option (List ℕ) → Option (List ℕ) → Bool → Type 0
+AnswersLine Stood Stands Passes a b m line n was now refused = LineDone (Stood m) (Stands n) Passes a b m line n was now refused
 
-abbrev pub CutsLine : {V : Type 0} (Stood Stands : Moment → Meaning V → Stage V → Type 0) → Moment → List ℕ → Moment → Option (List ℕ) → Option (List ℕ) → Type 0
-CutsLine Stood Stands m line n was now = LineCut (Stood m) (Stands n) m line n was now
+abbrev pub CutsLine : {V S : Type 0} (Stood Stands : Moment → Meaning V → Stage V → Type 0) (Passes : S → Moment → List ℕ → Option Reply → Moment → S → Type 0) → S → S
+    → Moment → List ℕ → Moment → Option (List ℕ) → Option (List ℕ) → Type 0
+CutsLine Stood Stands Passes a b m line n was now = LineCut (Stood m) (Stands n) Passes a b m line n was now
 
-abbrev pub AnswersLines : {V : Type 0} (Stood Stands : Moment → Meaning V → Stage V → Type 0) → Moment → List (List ℕ) → Moment → Option (List ℕ) → Option (List ℕ) → Bool → Type 0
-AnswersLines Stood Stands m lines n was now refused = LinesDone (Stood m) (Stands n) m lines n was now refused
+abbrev pub AnswersLines : {V S : Type 0} (Stood Stands : Moment → Meaning V → Stage V → Type 0) (Passes : S → Moment → List ℕ → Option Reply → Moment → S → Type 0) → S → S
+    → Moment → List (List ℕ) → Moment → Option (List ℕ) → Option (List ℕ) → Bool → Type 0
+AnswersLines Stood Stands Passes a b m lines n was now refused = LinesDone (Stood m) (Stands n) Passes a b m lines n was now refused
 
-abbrev pub CutsLines : {V : Type 0} (Stood Stands : Moment → Meaning V → Stage V → Type 0) → Moment → List (List ℕ) → Moment → Option (List ℕ) → Option (List ℕ) → Type 0
-CutsLines Stood Stands m lines n was now = LinesCut (Stood m) (Stands n) m lines n was now
+abbrev pub CutsLines : {V S : Type 0} (Stood Stands : Moment → Meaning V → Stage V → Type 0) (Passes : S → Moment → List ℕ → Option Reply → Moment → S → Type 0) → S → S
+    → Moment → List (List ℕ) → Moment → Option (List ℕ) → Option (List ℕ) → Type 0
+CutsLines Stood Stands Passes a b m lines n was now = LinesCut (Stood m) (Stands n) Passes a b m lines n was now

@@ -20,11 +20,11 @@ pub record IsAnswered (m : Moment) (line : List ℕ) (reply : Option Reply) (n :
   pub silent : reads line ≡ blank → reply ≡ None
   pub failed : reply ≡ Some (R.No N.Store) → Rose m.faults n.faults
 
--- so have lines in order
-abbrev pub AreAnswered : Moment → List (List ℕ) → List Reply → Moment → Type 0
-AreAnswered m [] replies n = (replies ≡ []) × (n ≡ m)
-AreAnswered m (l ∷ ls) replies n =
-    (reply : Option Reply) × (k : Moment) × (more : List Reply) × IsAnswered m l reply k × (replies ≡ cons_option reply more) × AreAnswered k ls more n
+-- So have lines in order. What each leaves by its reply, from a session to the one that goes on, is what `Passes` says.
+abbrev pub AreAnswered : {S : Type 0} → (S → Moment → List ℕ → Option Reply → Moment → S → Type 0) → S → Moment → List (List ℕ) → List Reply → Moment → S → Type 0
+AreAnswered Passes s m [] replies n t = (replies ≡ []) × (n ≡ m) × (t ≡ s)
+AreAnswered {S} Passes s m (l ∷ ls) replies n t =
+    (reply : Option Reply) × (u : S) × (k : Moment) × (more : List Reply) × IsAnswered m l reply k × Passes s m l reply k u × (replies ≡ cons_option reply more) × AreAnswered Passes u k ls more n t
 
 -- ---- from a stage
 

@@ -60,9 +60,10 @@ fn answer_and_write<S: Session, K: Store, W: Sink>(
     store: &mut K,
     out: &mut W,
 ) -> Result<bool, Cut>
-    ensures done { IfOk result (λ refused. AnswersLine (S.stands session.old) (S.stands session.new) (K.moment store.old)
+    ensures done { IfOk result (λ refused. AnswersLine (S.stands session.old) (S.stands session.new) S.passes session.old session.new (K.moment store.old)
         line.now (K.moment store.new) (W.output out.old).written (W.output out.new).written refused) }
-    ensures part { OnErr result (CutsLine (S.stands session.old) (S.stands session.new) (K.moment store.old) line.now (K.moment store.new) (W.output out.old).written (W.output out.new).written) }
+    ensures part { OnErr result (CutsLine (S.stands session.old) (S.stands session.new) S.passes session.old session.new (K.moment store.old)
+        line.now (K.moment store.new) (W.output out.old).written (W.output out.new).written) }
     ensures same { S.subject session.new ≡ S.subject session.old }
     ensures faults { (W.output out.old).faults ≤ (W.output out.new).faults }
     ensures sink { IsErrOf result cut.Sink → Rose (W.output out.old).faults (W.output out.new).faults }
@@ -84,9 +85,9 @@ pub fn answer_all<S: Session, K: Store, W: Sink>(
     store: &mut K,
     out: &mut W,
 ) -> Result<bool, Cut>
-    ensures done { IfOk result (λ refused. AnswersLines (S.stands session.old) (S.stands session.new) (K.moment store.old)
+    ensures done { IfOk result (λ refused. AnswersLines (S.stands session.old) (S.stands session.new) S.passes session.old session.new (K.moment store.old)
         (lines_of script.now) (K.moment store.new) (W.output out.old).written (W.output out.new).written refused) }
-    ensures part { OnErr result (CutsLines (S.stands session.old) (S.stands session.new) (K.moment store.old)
+    ensures part { OnErr result (CutsLines (S.stands session.old) (S.stands session.new) S.passes session.old session.new (K.moment store.old)
         (lines_of script.now) (K.moment store.new) (W.output out.old).written (W.output out.new).written) }
     ensures same { S.subject session.new ≡ S.subject session.old }
     ensures faults { (W.output out.old).faults ≤ (W.output out.new).faults }

@@ -1,7 +1,8 @@
 //! What answers the lines of a script.
-ghost use Rattle.std.specs.Prelude.{◌≡◌, Some};
+ghost use Rattle.std.specs.Prelude.{◌≡◌, List, Option, Some, ℕ};
 ghost use Rattle.ild_edges.specs.Store.{Moment};
 ghost use Rattle.ild_script.specs.declared.reply.No.{No};
+ghost use Rattle.ild_script.specs.declared.reply.Reply.{Reply as ReplySeen};
 ghost use Rattle.ild_script.specs.declared.reply.Reply.TheVariants as R;
 ghost use Rattle.ild_script_session.specs.Session.{State, Stage, Meaning};
 ghost use Rattle.ild_script_session.specs.Stands.{IsAnswered, Leads};
@@ -28,10 +29,14 @@ pub trait Session {
     /// Of which meaning of lines, and at which state, it is, whatever a store holds.
     ghost is_at: { Self → Meaning Value → State Value → Type 0 };
 
+    /// What a line leaves of each store, by its reply, from a session to the one that goes on: why it is refused, and what stays.
+    ghost passes: { Self → Moment → List ℕ → Option ReplySeen → Moment → Self → Type 0 };
+
     /// Answers a line over a store, and goes on to the stage behind it. The empty line has no reply.
     fn answer<K: Store>(&mut self, alloc: Global, line: &[u8], store: &mut K) -> Option<Reply>
         // Over each store, also one that does not tell what it holds.
         ensures answered { IsAnswered (K.moment store.old) line.now result (K.moment store.new) }
+        ensures passed { passes self.old (K.moment store.old) line.now result (K.moment store.new) self.new }
 
         // From the stage at which it stands. What lines mean stays.
         ensures leads { (M : Meaning Value) (s : Stage Value) → stands self.old (K.moment store.old) M s

@@ -3,7 +3,6 @@ ghost use Rattle.std.specs.Prelude.{◌<◌, IfSome, List, ℕ, map};
 ghost use Rattle.ild_data.specs.Data as T;
 ghost use Rattle.ild_data.specs.Data.{Data, Items as Parts, items_list, items_of};
 ghost use Rattle.ild_cbor.specs.Steps.{HasItems};
-ghost use Rattle.ild_layer_piece.specs.Entries.{HasLeft};
 ghost use Rattle.ild_schema.specs.Clear.{AreNamesApart};
 ghost use Rattle.ild_schema.specs.declared.def.Field.{Field};
 ghost use Rattle.ild_text.specs.Parts.{pairs_in, parts_left};
@@ -12,7 +11,7 @@ ghost use Rattle.std.specs.Iterator.{at_most};
 ghost use Rattle.ild_layer_fields.specs.Entries.{by_place, text_entries};
 ghost use Rattle.ild_struct.specs.Present.{HasPresent, PresentGives, count_left, numbered};
 ghost use Rattle.ild_struct.specs.declared.left.Left.TheVariants as L;
-ghost use Rattle.ild_struct.specs.inside.Stepping.{TakesField};
+ghost use Rattle.ild_struct.specs.inside.Stepping.{TakesEntry, TakesField};
 
 use crate::left::Left;
 use crate::present::Present;
@@ -27,7 +26,7 @@ type Taken<'b> = (usize, Piece<'b>, Left<'b>);
 // The first entry of a map.
 fn take_entry<'b>(fields: &Fields<'b>, entries: MapEntries<'b>, guess: usize) -> Option<Taken<'b>>
     ensures fewer { IfSome result (λ r. count_left r.2 < count_left (L.Map entries.entry guess)) }
-    ensures takes { AreNamesApart fields.now.def.now.fields → (es : List (List ℕ × Data)) → HasLeft entries.entry es → TakesField fields.now.def.now.fields (by_place fields.now.def.now.fields es) result }
+    ensures takes { TakesEntry fields.now.def.now.fields entries.entry result }
 {
     let mut left = entries;
     let (name, value) = left.next()?;

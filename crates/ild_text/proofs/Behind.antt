@@ -8,7 +8,7 @@ use Rattle.std.proofs.lemmas.List.{length-drop, take-append-drop, take-append-le
 use Rattle.ild_schema.specs.declared.def.Member.{Member}
 use Rattle.ild_schema.specs.declared.def.Mark.{Mark}
 use Rattle.ild_schema.specs.declared.def.Mark.TheVariants as K
-use Rattle.ild_schema.specs.Hex.{hex_byte, bytes_of_hex}
+use Rattle.ild_data.specs.Hex.{hex_byte, bytes_of_hex}
 use Rattle.ild_text.specs.Prefix.{bytes_mark, IsBehind, IsPrefixed, AreApart, OnePrefixed, PassesDigits, Strips}
 
 -- no member before this place has a prefix with which the text begins

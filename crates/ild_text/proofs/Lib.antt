@@ -9,5 +9,3 @@ pub mod Keyed
 pub mod Behind
 pub mod ByCount
 pub mod Firsts
-pub mod Digits
-pub mod Hexing

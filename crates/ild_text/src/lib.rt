@@ -1,8 +1,6 @@
-//! Texts are split at their delimiters, and read as decimals and hexadecimals. Each part is a piece of the text, and no memory is taken.
+//! Texts are split at their delimiters. Each part is a piece of the text, and no memory is taken.
 #![tactic(auto)]
 
-mod decimal;
-mod hex;
 mod join;
 mod laws;
 mod mark;
@@ -12,8 +10,6 @@ mod place;
 mod prefixes;
 mod split;
 
-pub use decimal::decimal_of;
-pub use hex::{hex_byte, is_hex};
 pub use join::join_parts;
 pub use laws::{joins_are_one, pairs_are_one, prefixes_are_one};
 pub use pair::pairs;

@@ -1,10 +1,10 @@
 //! What stands behind the prefix of one member.
 ghost use Rattle.std.specs.Prelude.{◌≡◌, ◌≤◌, List, MatchOption, length, option_map, ℕ};
-ghost use Rattle.ild_schema.specs.Hex.{bytes_of_hex};
+ghost use Rattle.ild_data.specs.Hex.{bytes_of_hex};
 ghost use Rattle.ild_schema.specs.Marks.{mark_text};
 ghost use Rattle.ild_text.specs.Prefix.{bytes_mark, IsBehind, PassesDigits, Strips};
 
-use crate::hex::hex_byte;
+use ild_data::hex_byte;
 use ild_schema::Mark;
 
 /// What stands behind the text of a mark.

@@ -22,7 +22,7 @@ use Rattle.ild_typed.specs.Layer as L
 use Rattle.ild_typed.specs.Layer.{Layer, as_map, as_struct, as_union, as_enum, as_unit}
 use Rattle.ild_typed.specs.Kinds.{kind_word_of}
 use Rattle.ild_schema.specs.DataKinds.{same_kind, has_kind, map_kind, unit_kind}
-use Rattle.ild_schema.specs.Decimal.{decimal_of}
+use Rattle.ild_data.specs.Decimal.{decimal_of}
 use Rattle.ild_typed.specs.Strings.{listpairs, stringpairs}
 use Rattle.ild_typed.specs.Composed.{unit_data, map_form, struct_form, union_form, enum_form, composed}
 use Rattle.ild_typed.specs.Hamt.{alone}

@@ -18,7 +18,7 @@ use Rattle.ild_schema.specs.Prefixes.{begins}
 use Rattle.ild_typed.specs.Kinds.{kind_word_of}
 use Rattle.ild_schema.specs.DataKinds.{same_kind, is_marked, union_has}
 use Rattle.ild_schema.specs.Marks.{mark_text, mark_kind}
-use Rattle.ild_schema.specs.Hex.{bytes_of_hex}
+use Rattle.ild_data.specs.Hex.{bytes_of_hex}
 use Rattle.ild_typed.specs.Strings.{text_in, bytes_in, members_in, map_data}
 use Rattle.ild_typed.specs.Composed.{inlined, marked_form, member_form, union_form}
 use Rattle.ild_typed.specs.Named.{where_some, names, is_among}

@@ -20,7 +20,7 @@ use Rattle.ild_data.specs.declared.hamt_shape.HamtShape.{HamtShape}
 use Rattle.ild_typed.specs.Layer.{Layer, as_boolean, as_integer, as_text, as_bytes, as_link, as_any, as_unit, as_enum, as_list, as_map, as_struct, as_union, as_hamt}
 use Rattle.ild_typed.specs.Fields.{field_entries, tuple_items}
 use Rattle.ild_typed.specs.Strings.{map_data, listpairs, stringpairs, in_key_order}
-use Rattle.ild_schema.specs.Decimal.{decimal_of}
+use Rattle.ild_data.specs.Decimal.{decimal_of}
 use Rattle.ild_typed.specs.Composed.{Hamts, any_data, unit_data, map_form, struct_form, union_form, enum_form, composed}
 use Rattle.ild_typed.specs.Hamt.{a_map, alone}
 use Rattle.ild_typed.specs.Tells.{Tells}

@@ -30,7 +30,7 @@ use Rattle.ild_schema.specs.Marks.{field_text, mark_text, mark_kind}
 use Rattle.ild_typed.specs.Strings.{text_in, bytes_in, members_in, texts_in, text_pairs, in_key_order, map_data, listpairs, stringpairs, stringjoin, cons_both}
 use Rattle.ild_typed.specs.Kinds.{kind_word_of}
 use Rattle.ild_schema.specs.DataKinds.{same_kind}
-use Rattle.ild_schema.specs.Hex.{bytes_of_hex}
+use Rattle.ild_data.specs.Hex.{bytes_of_hex}
 use Rattle.ild_schema.specs.Slots.{form_of}
 use Rattle.ild_typed.specs.Slots.{element_of, fields_of, member_of}
 use Rattle.ild_data.specs.Trie.{trie}

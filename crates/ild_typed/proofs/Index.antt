@@ -9,7 +9,8 @@ use Rattle.ild_data.proofs.Rising.{agrees, key_equal}
 use Rattle.std.specs.Cmp.Lexicographic.{same_text as text_same}
 use Rattle.std.proofs.lemmas.Option.{same_Some, none-some}
 use Rattle.ild_typed.specs.AtLaws.{IndicesAreDecimals}
-use Rattle.ild_typed.specs.Segment.{index_of, number_from}
+use Rattle.ild_data.specs.Decimal.{digits_value}
+use Rattle.ild_typed.specs.Segment.{index_of}
 
 pub own_text : (k : List ℕ) → same_text k k ≡ true
 own_text k = agrees k k (same_text k k) refl (key_equal k)
@@ -21,15 +22,15 @@ index_is_by s n i false e h = absurd (none-some i h)
 
 pub index-is : (s : List ℕ) (i : ℕ) → index_of s ≡ Some i → s ≡ decimal i
 unfolding index_of
-index-is s i h = index_is_by s (number_from 0 s) i (same_text s (decimal (number_from 0 s))) refl h
+index-is s i h = index_is_by s (digits_value 0 s) i (same_text s (decimal (digits_value 0 s))) refl h
 
-own : IsNumeralModel (λ ds. all_ascii_digits ds ≡ true) (number_from 0)
-own = numerals_by_fold _ (search rules) number_from (search rules)
+own : IsNumeralModel (λ ds. all_ascii_digits ds ≡ true) (digits_value 0)
+own = numerals_by_fold _ (search rules) digits_value (search rules)
 
 decimal_is : (i : ℕ) → i < 2 ^ 64 → index_of (decimal i) ≡ Some i
 unfolding index_of
 decimal_is i small =
-    let e : number_from 0 (decimal i) ≡ i = digits_value-decimal own i small in
+    let e : digits_value 0 (decimal i) ≡ i = digits_value-decimal own i small in
     ap (λ (n : ℕ). cond (same_text (decimal i) (decimal n)) (Some n) None) e ∙ ap (λ b. cond b (Some i) None) (own_text (decimal i))
 
 pub decimals : IndicesAreDecimals

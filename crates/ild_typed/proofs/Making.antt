@@ -34,8 +34,8 @@ use Rattle.ild_schema.specs.Marks.{field_text, mark_text, mark_kind}
 use Rattle.ild_typed.specs.Strings.{text_in, bytes_in, members_in, texts_in, text_pairs, cons_both, in_key_order, map_data, listpairs, stringpairs, stringjoin}
 use Rattle.ild_typed.specs.Kinds.{kind_word_of}
 use Rattle.ild_schema.specs.DataKinds.{kind_in, same_kind, slot_has}
-use Rattle.ild_schema.specs.Hex.{bytes_of_hex}
-use Rattle.ild_schema.specs.Decimal.{decimal_of}
+use Rattle.ild_data.specs.Hex.{bytes_of_hex}
+use Rattle.ild_data.specs.Decimal.{decimal_of}
 use Rattle.ild_typed.specs.Composed.{map_form, struct_form, inlined, marked_form, member_form, enum_form, composed}
 use Rattle.ild_typed.specs.Hamt.{root_map, whole}
 use Rattle.ild_data.specs.Trie.{trie}

@@ -31,8 +31,8 @@ use Rattle.ild_typed.specs.Strings.{text_in, bytes_in, members_in, texts_in, tex
 use Rattle.ild_typed.specs.Kinds.{kind_word_of}
 use Rattle.ild_schema.specs.DataKinds.{same_kind, has_kind, unit_kind, map_kind, struct_kind, enum_kind, is_marked, union_has}
 use Rattle.ild_schema.specs.Marks.{mark_text, mark_kind}
-use Rattle.ild_schema.specs.Hex.{bytes_of_hex}
-use Rattle.ild_schema.specs.Decimal.{decimal_of}
+use Rattle.ild_data.specs.Hex.{bytes_of_hex}
+use Rattle.ild_data.specs.Decimal.{decimal_of}
 use Rattle.ild_typed.specs.Composed.{Hamts, any_data, unit_data, map_form, struct_form, inlined, marked_form, member_form, union_form, enum_form, composed}
 use Rattle.ild_typed.specs.Hamt.{a_map, alone}
 use Rattle.ild_typed.proofs.Basics.{then_from, map_from, true_from}

@@ -32,7 +32,7 @@ use Rattle.ild_schema.specs.declared.def.Member.{Member}
 use Rattle.ild_schema.specs.declared.def.Scalar.{Scalar}
 use Rattle.ild_schema.specs.Marks.{field_text, mark_text, mark_kind}
 use Rattle.ild_schema.specs.DataKinds.{same_kind}
-use Rattle.ild_schema.specs.Hex.{bytes_of_hex}
+use Rattle.ild_data.specs.Hex.{bytes_of_hex}
 use Rattle.ild_schema.specs.Clear.{AreNamesApart, ClearStruct, KeysApart, ClearType}
 use Rattle.ild_typed.specs.Layer as L
 use Rattle.ild_typed.specs.Layer.{Layer, as_list, as_struct, as_union}

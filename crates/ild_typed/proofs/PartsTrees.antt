@@ -34,7 +34,7 @@ use Rattle.ild_schema.specs.declared.def.Scalar.{Scalar}
 use Rattle.ild_schema.specs.declared.def.Scalar.TheVariants as C
 use Rattle.ild_schema.specs.Marks.{field_text, mark_text, mark_kind}
 use Rattle.ild_schema.specs.DataKinds.{same_kind}
-use Rattle.ild_schema.specs.Hex.{bytes_of_hex}
+use Rattle.ild_data.specs.Hex.{bytes_of_hex}
 use Rattle.ild_schema.specs.Clear.{IsGiven, AreNamesApart, ClearStruct, ClearMap, KeysApart, ClearType}
 use Rattle.ild_schema.specs.Delims.{HasDelims, MapDelims, Delims}
 use Rattle.ild_schema.specs.Spelled.{SpelledStruct, SpelledMap, SpelledType, SpelledScalar, ImplicitType}

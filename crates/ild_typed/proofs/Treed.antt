@@ -41,8 +41,8 @@ use Rattle.ild_schema.specs.Marks.{field_text, mark_text, mark_kind}
 use Rattle.ild_typed.specs.Strings.{text_in, bytes_in, members_in, texts_in, text_pairs, in_key_order, map_data, pair_data, listpairs, stringpairs, stringjoin}
 use Rattle.ild_typed.specs.Kinds.{kind_word_of}
 use Rattle.ild_schema.specs.DataKinds.{same_kind}
-use Rattle.ild_schema.specs.Hex.{bytes_of_hex}
-use Rattle.ild_schema.specs.Decimal.{decimal_of}
+use Rattle.ild_data.specs.Hex.{bytes_of_hex}
+use Rattle.ild_data.specs.Decimal.{decimal_of}
 use Rattle.ild_typed.specs.Composed.{Hamts, any_data, unit_data, map_form, struct_form, inlined, marked_form, member_form, union_form, enum_form, composed}
 use Rattle.ild_typed.specs.Levels.{map_levels, struct_levels, levels_of}
 use Rattle.ild_typed.specs.Nested.{TreeIn}

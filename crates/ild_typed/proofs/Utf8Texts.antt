@@ -17,8 +17,8 @@ use Rattle.ild_data.specs.Integer.{IsInt}
 use Rattle.ild_data.specs.Spell.{id_of, cid_of}
 use Rattle.ild_typed.specs.Texts.{join, join_pairs, is_parted, same_places, places, joints}
 use Rattle.ild_schema.specs.Joins.{joined, pair_text}
-use Rattle.ild_schema.specs.Hex.{hex_digit, hex_byte, bytes_of_hex}
-use Rattle.ild_schema.specs.Decimal.{natural_of, below_zero, from_zero, decimal_of}
+use Rattle.ild_data.specs.Hex.{hex_digit, hex_byte, bytes_of_hex}
+use Rattle.ild_data.specs.Decimal.{natural_of, below_zero, from_zero, decimal_of}
 use Rattle.ild_typed.proofs.Basics.{then_from, map_from, true_from, if_from}
 
 -- ---- texts

@@ -27,7 +27,7 @@ use Rattle.ild_typed.specs.Strings.{text_in, bytes_in, members_in, in_key_order,
 use Rattle.ild_typed.specs.Kinds.{kind_word_of}
 use Rattle.ild_schema.specs.DataKinds.{same_kind}
 use Rattle.ild_schema.specs.Marks.{member_text, member_integer, mark_text, mark_kind}
-use Rattle.ild_schema.specs.Hex.{bytes_of_hex}
+use Rattle.ild_data.specs.Hex.{bytes_of_hex}
 
 -- how the layer of a HAMT of a shape stands in a block
 abbrev pub Hamts : Type 0

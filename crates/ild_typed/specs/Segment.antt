@@ -1,6 +1,7 @@
 -- What a segment leads to in a holder, and the holder with that part set. What is not addressed stays.
 use Rattle.std.specs.Prelude.{ℕ, suc, ◌+◌, ◌*◌, ◌-◌, List, [], ◌∷◌, Bool, true, false, Option, Some, None, slice_get, slice_set, option_map, option_and_then, decimal, if◌then◌else◌}
 use Rattle.std.specs.Option.{option_map_or}
+use Rattle.ild_data.specs.Decimal.{digits_value}
 use Rattle.ild_data.specs.Key.{same_text, put, value_at}
 use Rattle.ild_schema.specs.declared.def.Field.{Field}
 use Rattle.ild_schema.specs.declared.def.Member.{Member}
@@ -10,13 +11,9 @@ use Rattle.ild_schema.specs.Value.{Value}
 use Rattle.ild_schema.specs.Slots.{plainly}
 use Rattle.ild_typed.specs.Holder.{Holder, fields, member, entries, elements, any_entries, any_elements, nothing, of_any, data_in}
 
--- The number that a segment is in decimal, without leading zeros.
-abbrev pub number_from : ℕ → List ℕ → ℕ
-number_from n [] = n
-number_from n (d ∷ ds) = number_from (10 * n + (d - 48)) ds
-
+-- the number that a segment is in decimal, without leading zeros
 unfoldable pub index_of : List ℕ → Option ℕ
-index_of segment = if same_text segment (decimal (number_from 0 segment)) then Some (number_from 0 segment) else None
+index_of segment = if same_text segment (decimal (digits_value 0 segment)) then Some (digits_value 0 segment) else None
 
 -- the field of a name: its slot, and its value where it is present
 abbrev pub field_at : List ℕ → List Field → List (Option Value) → Option (Slot × Value)

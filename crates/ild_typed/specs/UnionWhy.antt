@@ -9,7 +9,7 @@ use Rattle.ild_schema.specs.declared.def.Member.{Member}
 use Rattle.ild_schema.specs.Prefixes.{begins}
 use Rattle.ild_typed.specs.Strings.{text_in, bytes_in, members_in}
 use Rattle.ild_schema.specs.Marks.{mark_text}
-use Rattle.ild_schema.specs.Hex.{bytes_of_hex}
+use Rattle.ild_data.specs.Hex.{bytes_of_hex}
 use Rattle.ild_typed.specs.Named.{where_some}
 
 -- a text is that of a member

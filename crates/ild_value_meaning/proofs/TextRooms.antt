@@ -31,7 +31,7 @@ use Rattle.ild_schema.specs.Copies.{base}
 use Rattle.ild_schema.specs.DataKinds.{same_kind}
 use Rattle.ild_schema.specs.Delims.{HasDelims, Delims}
 use Rattle.ild_schema.specs.Fitting.{ImplicitFits, FittingType}
-use Rattle.ild_schema.specs.Hex.{bytes_of_hex}
+use Rattle.ild_data.specs.Hex.{bytes_of_hex}
 use Rattle.ild_schema.specs.Marks.{field_text, mark_text, mark_kind}
 use Rattle.ild_schema.specs.Rules.{is_of}
 use Rattle.ild_schema.specs.Slots.{form_of, plainly}

@@ -7,7 +7,7 @@ ghost use Rattle.ild_schema.specs.declared.def.MapForm.TheVariants as MF;
 ghost use Rattle.ild_schema.specs.declared.def.TypeDef.TheVariants as D;
 ghost use Rattle.ild_schema.specs.declared.row.Row.{Row};
 ghost use Rattle.ild_view_walk.specs.inside.Inside.{OpensMany};
-ghost use Rattle.ild_view_walk.specs.inside.Opens.{IsOpening, OpensPiece};
+ghost use Rattle.ild_view_walk.specs.inside.Opens.{IsOpening, OpensPiece, OpensTextPairs};
 ghost use Rattle.ild_layer_parts.specs.Ready.{IsIn};
 
 use crate::opening::{Opening, Stop};
@@ -31,7 +31,7 @@ pub(crate) fn open_stringpairs<'b>(
 ) -> Result<Option<Opening<'b>>, Stop>
     requires inner_some { 0 < length inner.now }
     requires entry_some { 0 < length entry.now }
-    ensures opens { (rows : List Row) (key_at at : ℕ) (t : Data) → StandsFor rows piece.now t → OpensPiece rows room (D.Map key key_at value at (MF.StringPairs inner.entry.now entry.entry.now)) t result }
+    ensures opens { OpensTextPairs piece.now room key value inner.entry.now entry.entry.now result }
     ensures ready { (rows : List Row) → IsIn rows (plainly key) → IsIn rows value → IsOpening rows room result }
     ensures many { OpensMany result }
 {

@@ -6,7 +6,7 @@ use Rattle.ild_data.specs.Key.{key_less}
 use Rattle.ild_data.specs.Spell.{head, spell_bytes, spell_text}
 use Rattle.ild_build_entries.specs.declared.hamt.MarkedEntries.{MarkedEntries}
 use Rattle.ild_build_leaf.specs.Kept.{is_before}
-use Rattle.ild_schema.specs.Hex.{bytes_of_hex}
+use Rattle.ild_data.specs.Hex.{bytes_of_hex}
 use Rattle.ild_schema.specs.Indexed.{InKeyOrder}
 use Rattle.ild_schema.specs.declared.def.Field.{Field}
 use Rattle.ild_schema.specs.declared.def.UnionForm.{UnionForm}

@@ -36,6 +36,10 @@ is_same_spot s t = nat_eq s.0 t.0 && nat_eq s.1 t.1
 abbrev pub AreSeen : (ℕ × ℕ → Bool) → List (ℕ × ℕ) → Type 0
 AreSeen has spots = (s : ℕ × ℕ) → has s ≡ true → IsIn s spots
 
+-- places came behind those that were, all of these children, and what the set has is among them
+abbrev pub Gathers : List (List ℕ) → List (List ℕ × ℕ) → List (ℕ × ℕ) → (ℕ × ℕ → Bool) → List (ℕ × ℕ) → Type 0
+Gathers own cs old seen new = AreSeen seen new × Grows own cs old new
+
 -- the children of each of these places lead on
 abbrev pub LeadOn : List (List ℕ) → (ℕ → List ℕ → List (List ℕ × ℕ)) → List (ℕ × ℕ) → List (ℕ × ℕ) → Type 0
 LeadOn own children passed spots = (s : ℕ × ℕ) → IsIn s passed → Leads own (children s.1 (own_block own s.0)) spots

@@ -10,7 +10,7 @@ use Rattle.ild_data.specs.Spell.{head, spell_text}
 use Rattle.ild_path_marked.specs.declared.part.Part.{Part}
 use Rattle.ild_path_marked.specs.declared.part.Part.TheVariants as P
 use Rattle.ild_schema.specs.DataKinds.{same_kind}
-use Rattle.ild_schema.specs.Hex.{bytes_of_hex}
+use Rattle.ild_data.specs.Hex.{bytes_of_hex}
 use Rattle.ild_schema.specs.Marks.{mark_kind}
 use Rattle.ild_schema.specs.declared.def.KindWord.{KindWord}
 use Rattle.ild_schema.specs.declared.def.KindWord.TheVariants as W

@@ -102,12 +102,13 @@ pub record IsGoing (h : List ℕ → List ℕ) (place : Place) (t : Tests) (v : 
   pub at : IsIn h place t v path m
   pub is : IsPlaceIn h (table_at place) at.was (plainly (type_at place), v) path V.Del place
 
--- a fault of the store is told where it failed, over every store
+-- a fault of the store is told where it failed, over every store; a block is never blamed
 abbrev pub Fails : Moment → Result (List ℕ) No → Moment → Type 0
 Fails m (Err N.Store) k = Rose m.faults k.faults
 Fails m (Err N.Line) k = ⊥
 Fails m (Err N.Reserved) k = ⊥
 Fails m (Err N.Batch) k = ⊥
+Fails m (Err N.Block) k = ⊥
 Fails m result k = Unit {0}
 
 -- Over every store: what was held is held. From a place in a value that can be held: what is due.

@@ -25,6 +25,7 @@ use Rattle.ild_path_place.specs.declared.fault.PathFault.TheVariants as F
 use Rattle.ild_path_place.specs.declared.place.Place.{Place}
 use Rattle.ild_path_place.specs.declared.verb.Verb.{Verb}
 use Rattle.ild_run_edit.specs.inside.Moves.{Fails, MoveAnswer, due_of}
+use Rattle.ild_run_standing.specs.Blame.{IsBroken}
 use Rattle.ild_run_standing.specs.Standing.{IsHeldAt}
 use Rattle.ild_view_doc.specs.Docs.{table_in, type_in, block_in}
 use Rattle.ild_view_doc.specs.declared.doc.Doc.{Doc}
@@ -58,20 +59,21 @@ abbrev pub IsFor : Verb → Result Place No → Type 0
 IsFor verb (Ok place) = verb_in place ≡ verb
 IsFor verb (Err refusal) = Unit {0}
 
--- a fault of the store, over every store; a line is not refused so, nothing is printed, and nothing put
-abbrev pub FindFails : Moment → Result Place No → Moment → Type 0
-FindFails m (Err N.Store) n = Rose m.faults n.faults
-FindFails m (Err N.Line) n = ⊥
-FindFails m (Err N.Reserved) n = ⊥
-FindFails m (Err N.Batch) n = ⊥
-FindFails m (Err N.Clash) n = ⊥
-FindFails m result n = Unit {0}
+-- a fault of the store, and a block that is blamed, over every store; a line is not refused so, nothing is printed, and nothing put
+abbrev pub FindFails : (List ℕ → List ℕ) → Doc → Moment → Result Place No → Moment → Type 0
+FindFails h d m (Err N.Store) n = Rose m.faults n.faults
+FindFails h d m (Err N.Block) n = IsBroken h d m.blocks m.lacks n.lacks
+FindFails h d m (Err N.Line) n = ⊥
+FindFails h d m (Err N.Reserved) n = ⊥
+FindFails h d m (Err N.Batch) n = ⊥
+FindFails h d m (Err N.Clash) n = ⊥
+FindFails h d m result n = Unit {0}
 
 pub record PlaceIsFound (h : List ℕ → List ℕ) (d : Doc) (verb : Verb) (path : List (List ℕ)) (m : Moment) (result : Result Place No) (n : Moment) : Type 0 where
   pub only : OnlyReads m n
   pub of : IsInDoc d result
   pub done : IsFor verb result
-  pub fails : FindFails m result n
+  pub fails : FindFails h d m result n
   pub stands : (held : List (List ℕ)) (v : Value) → m.blocks ≡ Some held → block_at held (id_of (block_in d)) ≡ Some (block_in d)
       → Stands bare (block_at held) h (table_in d) (type_in d) (id_of (block_in d)) v → FindsIn h (table_in d) held (plainly (type_in d), v) path verb m result n
 
@@ -83,7 +85,12 @@ pub record RootIsMade (h : List ℕ → List ℕ) (rows : List Row) (t : Tests) 
   pub gets : k.gets ≤ m.gets + (due_of h rows t n v e).gets
   pub puts : k.puts ≤ m.puts + (due_of h rows t n v e).puts
 
+-- the same of the edit
+abbrev pub RootFails : (List ℕ → List ℕ) → Doc → Moment → Result (List ℕ) No → Moment → Type 0
+RootFails h d m (Err N.Block) k = IsBroken h d m.blocks m.lacks k.lacks
+RootFails h d m result k = Fails m result k
+
 pub record MakesRoot (h : List ℕ → List ℕ) (d : Doc) (e : Edit (List ℕ)) (m : Moment) (result : Result (List ℕ) No) (k : Moment) : Type 0 where
   pub later : Later m k
-  pub fails : Fails m result k
+  pub fails : RootFails h d m result k
   pub makes : (t : Tests) (v : Value) → AreTests (table_in d) t → IsHeldAt h d t m v → RootIsMade h (table_in d) t (type_in d) v e m result k

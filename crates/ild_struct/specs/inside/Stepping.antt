@@ -5,7 +5,11 @@ use Rattle.ild_data.specs.Data.{Data}
 use Rattle.ild_cbor.specs.declared.piece.Piece.{Piece}
 use Rattle.ild_schema.specs.declared.def.Field.{Field}
 use Rattle.ild_schema.specs.declared.row.Row.{Row}
+use Rattle.ild_layer_fields.specs.Entries.{by_place}
+use Rattle.ild_layer_piece.specs.Entries.{HasLeft}
 use Rattle.ild_layer_piece.specs.Pieces.{StandsFor}
+use Rattle.ild_layer_piece.specs.declared.walk.MapEntries.{MapEntries}
+use Rattle.ild_schema.specs.Clear.{AreNamesApart}
 use Rattle.ild_struct.specs.declared.left.Left.{Left}
 use Rattle.ild_struct.specs.Present.{ArePresent, Leaves}
 
@@ -20,6 +24,10 @@ TakesField fs [] None = Unit {0}
 TakesField fs [] (Some r) = ⊥
 TakesField fs (x ∷ xs) None = ⊥
 TakesField fs (x ∷ xs) (Some r) = TakesFirst fs x xs r
+
+-- the first of the entries that are left is that of its field
+abbrev pub TakesEntry : List Field → MapEntries → Option (ℕ × Piece × Left) → Type 0
+TakesEntry fs entries r = AreNamesApart fs → (es : List (List ℕ × Data)) → HasLeft entries es → TakesField fs (by_place fs es) r
 
 -- what is written, each of a field that is there
 pub record Written (fs : List Field) (os : List (Option Data)) (xs : List (ℕ × Data)) : Type 0 where

@@ -1,5 +1,5 @@
 use Rattle.std.proofs.Common.{sym}
-use Rattle.ild_text.proofs.Hexing.{hex_next}
+use Rattle.ild_data.proofs.Hexing.{hex_next}
 use Rattle.ild_build_leaf.proofs.hex.add_hex.Goals as goal
 
 pub loop-rest-preserved : goal.loop-rest-preserved

@@ -1,5 +1,5 @@
 use Rattle.std.proofs.Common.{◌++◌, ◌∙◌, ap}
-use Rattle.ild_schema.specs.Hex.{bytes_of_hex}
+use Rattle.ild_data.specs.Hex.{bytes_of_hex}
 use Rattle.ild_build_entries.proofs.Marked.{on_ok}
 use Rattle.ild_build_pass.proofs.fronts.add_behind_prefix.Goals as goal
 

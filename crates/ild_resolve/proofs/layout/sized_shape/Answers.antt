@@ -1,7 +1,7 @@
 use Rattle.std.proofs.Common.{◌≡◌, Some, rules, None, ◌∙◌, ap, ◌-◌, drop}
 use Rattle.std.specs.Prelude.{option_and_then, slice_index, nat_lt, if◌then◌else◌}
 use Rattle.std.proofs.lemmas.List.{take_rest}
-use Rattle.ild_schema.specs.Decimal.{natural_of}
+use Rattle.ild_data.specs.Decimal.{natural_of}
 use Rattle.ild_resolve.proofs.Layouts.{below_hundred}
 use Rattle.ild_resolve.proofs.layout.sized_shape.Goals as goal
 

@@ -10,4 +10,4 @@ returns-in-Ok g c = finds_place _ _ _ _ _ _ c.places_tell.ensures _ c.in-Ok.ensu
 pub returns-in-Err : goal.returns-in-Err
 returns-in-Err g c =
     subst (λ r. PlaceIsFound g.H.KeyHash.hash_of c.args.doc.now c.args.verb c.args.path.now (g.K.Store.moment c.args.store.now) (Err r) (g.K.Store.moment c.locate.new.store)) (sym c.no_place.ensures)
-    (finds_none _ _ _ _ _ _ c.faults_are_refusals.ensures c.in-Err.fault c.in-Err.ensures.only c.in-Err.ensures.failed c.in-Err.ensures.stands)
+    (finds_none _ _ _ _ _ _ c.faults_are_refusals.ensures c.in-Err.fault c.in-Err.ensures.only c.in-Err.ensures.failed c.in-Err.ensures.refused c.in-Err.ensures.stands)

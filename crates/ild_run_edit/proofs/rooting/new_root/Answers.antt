@@ -9,7 +9,7 @@ returns-in-Err-clause-makes g c =
     refused_root c.held_are_standing.ensures _ _ c.args.verb c.args.path.now c.args.json.now c.are_texts.ensures _ _ _ c.in-Err.ensures
 
 pub returns-in-Err-clause-named : goal.returns-in-Err-clause-named
-returns-in-Err-clause-named g c = λ e. absurd (nowhere_unclashed (g.K.Store.moment c.args.store.now) (g.K.Store.moment c.located.new.store) c.in-Err.refusal c.in-Err.ensures.fails e)
+returns-in-Err-clause-named g c = λ e. absurd (nowhere_unclashed g.H.KeyHash.hash_of c.args.doc.now (g.K.Store.moment c.args.store.now) (g.K.Store.moment c.located.new.store) c.in-Err.refusal c.in-Err.ensures.fails e)
 
 pub returns-in-Set : goal.returns-in-Set
 returns-in-Set g c = record {

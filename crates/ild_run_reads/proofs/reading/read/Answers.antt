@@ -1,15 +1,33 @@
-use Rattle.std.proofs.Common.{sym, subst}
+use Rattle.std.proofs.Common.{◌∙◌, ap, sym, subst}
+use Rattle.ild_data.specs.Seen.{data_of}
+use Rattle.ild_data.specs.Spell.{id_of}
+use Rattle.ild_open.specs.Blocks.{bytes_in}
 use Rattle.ild_script.specs.declared.reply.No.{No}
 use Rattle.ild_script.specs.declared.reply.Reply.TheVariants as R
+use Rattle.ild_view.specs.View.{slot_of, table_of}
 use Rattle.ild_run_reads.specs.Replies.{RepliesAs}
-use Rattle.ild_run_reads.proofs.Replying.{replies_refused, replies_told}
+use Rattle.ild_run_reads.proofs.Replying.{refused_blames, replies_refused, replies_told, told_rootless, told_unblamed}
 use Rattle.ild_run_reads.proofs.reading.read.Goals as goal
 
-pub returns-in-Ok : goal.returns-in-Ok
-returns-in-Ok g c =
+pub returns-in-Ok-clause-replies : goal.returns-in-Ok-clause-replies
+returns-in-Ok-clause-replies g c =
     replies_told g.H.KeyHash.hash_of c.args.view.now c.args.path.now c.args.what (g.K.Store.moment c.args.store.now) (g.K.Store.moment c.tell.new.store) c.in-Ok.tree c.in-Ok.ensures.tells c.reply_of.result c.reply_of.ensures
 
-pub returns-in-Err : goal.returns-in-Err
-returns-in-Err g c =
+pub returns-in-Ok-clause-rootless : goal.returns-in-Ok-clause-rootless
+returns-in-Ok-clause-rootless g c = λ id e. told_rootless (data_of c.in-Ok.tree) c.reply_of.result id c.reply_of.ensures e
+
+pub returns-in-Ok-clause-blamed : goal.returns-in-Ok-clause-blamed
+returns-in-Ok-clause-blamed g c = λ e f t is front. absurd (told_unblamed (data_of c.in-Ok.tree) c.reply_of.result c.reply_of.ensures e)
+
+pub returns-in-Err-clause-replies : goal.returns-in-Err-clause-replies
+returns-in-Err-clause-replies g c =
     subst (λ (no : No). RepliesAs g.H.KeyHash.hash_of c.args.view.now c.args.path.now c.args.what (g.K.Store.moment c.args.store.now) (R.No no) (g.K.Store.moment c.tell.new.store)) (sym c.refusal.ensures)
     (replies_refused g.H.KeyHash.hash_of c.args.view.now c.args.path.now c.args.what (g.K.Store.moment c.args.store.now) (g.K.Store.moment c.tell.new.store) c.in-Err.fault c.in-Err.ensures.tells)
+
+pub returns-in-Err-clause-rootless : goal.returns-in-Err-clause-rootless
+returns-in-Err-clause-rootless g c = λ id e. absurd cc
+
+pub returns-in-Err-clause-blamed : goal.returns-in-Err-clause-blamed
+returns-in-Err-clause-blamed g c = λ e f t is front.
+    refused_blames g.H.KeyHash.hash_of (table_of c.args.view.now) (id_of (bytes_in c.args.at)) (slot_of c.args.view.now) t (g.K.Store.moment c.args.store.now) (g.K.Store.moment c.tell.new.store) c.in-Err.fault
+    (c.in-Err.ensures.refused f t is front) (ap R.No (sym c.refusal.ensures) ∙ e)

@@ -14,7 +14,7 @@ loop-rest-smaller g c = rw c.in-Some.is (omega (arith, c.cut_line.ensures.less))
 
 pub loop-rest-init : goal.loop-rest-init
 loop-rest-init g c = record {
-  so_far = so_far_none (g.S.Session.stands c.args.session.now (g.K.Store.moment c.args.store.now)) (lines_of c.args.script.now) (g.K.Store.moment c.args.store.now) (g.W.Sink.output c.args.out.now).written;
+  so_far = so_far_none (g.S.Session.stands c.args.session.now (g.K.Store.moment c.args.store.now)) g.S.Session.passes c.args.session.now (lines_of c.args.script.now) (g.K.Store.moment c.args.store.now) (g.W.Sink.output c.args.out.now).written;
   same = refl;
   faults = omega arith;
 }
@@ -30,8 +30,8 @@ loop-rest-preserved g c =
     let was = (g.W.Sink.output c.args.out.now).written in
     let then = (g.W.Sink.output c.loop-rest.out).written in
     let now = (g.W.Sink.output c.answer_and_write.new.out).written in
-    let one : LineDone Stands Then n c.cut_line.result.0.now o then now c.in_ok-refused.field-0 = c.in_ok-refused.ensures.done in record {
-      so_far = so_far_more Stood Stands Then (lines_of c.args.script.now) c.cut_line.result.0.now (lines_left c.cut_line.result.1) (lines_left c.loop-rest.rest) m n o
+    let one : LineDone Stands Then g.S.Session.passes c.loop-rest.session c.answer_and_write.new.session n c.cut_line.result.0.now o then now c.in_ok-refused.field-0 = c.in_ok-refused.ensures.done in record {
+      so_far = so_far_more Stood g.S.Session.passes c.args.session.now Stands Then c.loop-rest.session c.answer_and_write.new.session (lines_of c.args.script.now) c.cut_line.result.0.now (lines_left c.cut_line.result.1) (lines_left c.loop-rest.rest) m n o
           was then now c.loop-rest.refused c.in_ok-refused.field-0
           c.loop-rest.invariant.so_far (rw c.in-Some.is c.cut_line.ensures.cut) one;
       same = c.in_ok-refused.ensures.same ∙ c.loop-rest.invariant.same;
@@ -49,8 +49,8 @@ returns-in_err-refused-clause-part g c =
     let was = (g.W.Sink.output c.args.out.now).written in
     let then = (g.W.Sink.output c.loop-rest.out).written in
     let now = (g.W.Sink.output c.answer_and_write.new.out).written in
-    let one : LineCut Stands Then n c.cut_line.result.0.now o then now = c.in_err-refused.ensures.part in
-    let cut = so_far_cut Stood Stands Then (lines_of c.args.script.now) c.cut_line.result.0.now (lines_left c.cut_line.result.1) (lines_left c.loop-rest.rest) m n o
+    let one : LineCut Stands Then g.S.Session.passes c.loop-rest.session c.answer_and_write.new.session n c.cut_line.result.0.now o then now = c.in_err-refused.ensures.part in
+    let cut = so_far_cut Stood g.S.Session.passes c.args.session.now Stands Then c.loop-rest.session c.answer_and_write.new.session (lines_of c.args.script.now) c.cut_line.result.0.now (lines_left c.cut_line.result.1) (lines_left c.loop-rest.rest) m n o
     was then now c.loop-rest.refused
     c.loop-rest.invariant.so_far (rw c.in-Some.is c.cut_line.ensures.cut) one in
     on_err_always c.from_residual.result _ cut

@@ -1,6 +1,6 @@
 use Rattle.std.proofs.Common.{is_some, not, sym, ap, ◌∙◌}
-use Rattle.ild_text.proofs.Hexing.{hex_goes, hex_stops, hex_ends}
-use Rattle.ild_text.proofs.hex.is_hex.Goals as goal
+use Rattle.ild_data.proofs.Hexing.{hex_goes, hex_stops, hex_ends}
+use Rattle.ild_data.proofs.hex.is_hex.Goals as goal
 
 pub loop-rest-preserved : goal.loop-rest-preserved
 loop-rest-preserved c = hex_goes c.loop-rest.rest.now c.in-len2-up.len_at_least (ap is_some (sym c.hex_byte.ensures) ∙ c.is_none.ensures ∙ ap not c.if-is_none.false) ∙ c.loop-rest.invariant

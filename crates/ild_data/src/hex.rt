@@ -1,6 +1,6 @@
 //! Hexadecimal digits, of either case (RFC 4648, "Base 16 Encoding").
 ghost use Rattle.std.specs.Prelude.{◌≡◌, ◌<◌, IfSome, is_some};
-ghost use Rattle.ild_schema.specs.Hex.{bytes_of_hex, hex_byte, hex_digit};
+ghost use Rattle.ild_data.specs.Hex.{bytes_of_hex, hex_byte, hex_digit};
 
 /// The value of a digit.
 fn hex_digit(b: u8) -> Option<u8>

@@ -1,6 +1,6 @@
 use Rattle.std.proofs.Common.{◌≡◌, ◌^◌, ◌<◌, drop}
-use Rattle.ild_schema.specs.Decimal.{digits_value}
-use Rattle.ild_text.proofs.decimal.digits.Given as goal
+use Rattle.ild_data.specs.Decimal.{digits_value}
+use Rattle.ild_data.proofs.decimal.digits_value.Given as goal
 
 abbrev pub invariant-loop-digit : goal.invariant-loop-digit
 invariant-loop-digit l = record {
