@@ -1,8 +1,9 @@
 mod Mapping
 mod Meeting
-mod Single
+pub mod Single
 mod Ways
 mod Stepping
 mod Onward
 mod Rooted
 mod Copied
+mod Told

@@ -7,14 +7,16 @@ mod end;
 mod entry;
 mod fault;
 mod following;
+mod found;
 mod laws;
 mod proof;
 mod segment;
 mod stand;
 mod way;
+mod writing;
 
-pub use answer::Answer;
-pub use checking::verify;
+pub use answer::{Answer, Part};
+pub use checking::{verify, verify_part};
 pub use fault::{Reject, VerifyErr};
 pub use laws::proofs_say_one_thing;
 pub use proof::Proof;

@@ -1,5 +1,6 @@
-use Rattle.std.proofs.Common.{◌≡◌, ◌<◌, length, ap, arith}
+use Rattle.std.proofs.Common.{◌≡◌, ◌<◌, length, refl, ap, arith}
 use Rattle.ild_view.specs.View.{slot_of, table_of}
+use Rattle.ild_inclusion.specs.declared.answer.Answer.TheVariants as A
 use Rattle.ild_inclusion.proofs.Onward.{arrives, begins, goes_on, leaves, segment_at, stops}
 use Rattle.ild_inclusion.proofs.following.follow.Goals as goal
 
@@ -14,7 +15,7 @@ returns-in-Ok-Off g c = λ f is memory.
     let less : c.loop-k.k < length path = omega (arith, c.loop-k-test.true, count) in
     let here = segment_at c.as_slice-segments.result.now path c.loop-k.k _ c.as_str.result.now c.index-segments-k.result c.as_str.ensures.same c.index-segments-k.is c.as_slice-segments.ensures less in
     leaves g.H.KeyHash.hash_of (table_of x.view) x.room x.at (slot_of x.view, f) path x.left.now c.loop-k.k c.loop-k.stand (c.loop-k.invariant f is) c.as_str.result.now here c.in-Ok-Off.end
-    (rw c.in-Ok-Off.field-0-is at c.in-Ok-Off.ensures) c.ended.result c.ended.ensures
+    (rw c.in-Ok-Off.field-0-is at c.in-Ok-Off.ensures) c.ended.result (c.ended.ensures (A.Absent c.loop-k.k) refl)
 
 pub returns-in-Err : goal.returns-in-Err
 returns-in-Err g c = λ f is memory.
@@ -41,4 +42,4 @@ returns g c = λ f is memory.
     let path = c.args.path.now in
     let count : length c.as_slice-segments.result.now ≡ length path = ap length c.as_slice-segments.ensures in
     arrives g.H.KeyHash.hash_of (table_of x.view) x.room x.at (slot_of x.view, f) path x.left.now c.loop-k.k c.loop-k.stand (c.loop-k.invariant f is)
-    (λ lt. let past = c.loop-k-test.false in omega (arith, past, count, lt)) c.in_ok-here.here (λ g view. c.in_ok-here.ensures g view) c.ended-2.result c.ended-2.ensures
+    (λ lt. let past = c.loop-k-test.false in omega (arith, past, count, lt)) c.ended-2.result (λ a found. c.ended-2.ensures a found)

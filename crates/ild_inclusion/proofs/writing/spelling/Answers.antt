@@ -1,6 +1,6 @@
 use Rattle.std.proofs.Common.{Some, sym, ap, ◌∙◌}
 use Rattle.ild_inclusion.proofs.Copied.{copy_shown}
-use Rattle.ild_inclusion.proofs.following.spelling.Goals as goal
+use Rattle.ild_inclusion.proofs.writing.spelling.Goals as goal
 
 pub returns-in-Some-Node : goal.returns-in-Some-Node
 returns-in-Some-Node c =
