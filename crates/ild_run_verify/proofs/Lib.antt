@@ -1,0 +1,3 @@
+mod Blocks
+mod Lines
+pub mod OneSaid

@@ -1,0 +1,4 @@
+pub mod Proof
+pub mod Line
+pub mod Verified
+pub mod inside
