@@ -1,0 +1,3 @@
+pub mod Fails
+pub mod Proves
+pub mod inside
