@@ -1,5 +1,5 @@
 -- What a line of a script over named heads leaves: the event that it gives is taken, or it gives none and is refused.
-use Rattle.std.specs.Prelude.{◌≡◌, ◌⊎◌, ℕ, List, [], ◌∷◌, Bool, IsTrue}
+use Rattle.std.specs.Prelude.{◌≡◌, ◌⊎◌, ℕ, List, [], ◌∷◌, Bool, IsTrue, Option, Some, None}
 use Rattle.ild_data.specs.declared.id.BlockId.{BlockId}
 use Rattle.ild_script.specs.declared.reply.No.{No}
 use Rattle.ild_script.specs.declared.reply.No.TheVariants as N
@@ -22,35 +22,36 @@ pub record RefusesEvent (refusal : No) (s : State) (text : List ℕ) (t : State)
   pub stays : t ≡ s
 
 -- the event was taken, and its outcome told behind the number of its session
-pub record Tells {V : Type 0} (told : Bool) (Stands : List ℕ → V → Type 0) (Plain : V → List ℕ → List ℕ → V → Type 0) (s : State) (event : Event) (text : List ℕ) (t : State) : Type 0 where
+pub record Tells {W V : Type 0} (told : Bool) (Stands : List ℕ → V → Type 0) (Plain : V → List ℕ → List ℕ → V → Type 0) (Ran : W → List ℕ → List ℕ → List ℕ → List ℕ → W → Type 0) (w x : W)
+    (s : State) (event : Event) (text : List ℕ) (t : State) : Type 0 where
   pub outcome : Outcome
-  pub turn : IsTurn told Stands Plain s event outcome t
+  pub turn : IsTurn told Stands Plain Ran w x s event outcome t
   pub text_is : text ≡ told_text (session_of event) outcome
 
 -- or memory was wanting for it
-abbrev pub TakesEvent : {V : Type 0} → Bool → (List ℕ → V → Type 0) → (V → List ℕ → List ℕ → V → Type 0) → State → Event → List ℕ → State → Type 0
-TakesEvent told Stands Plain s event text t = RefusesEvent N.Memory s text t ⊎ Tells told Stands Plain s event text t
+abbrev pub TakesEvent : {W V : Type 0} → Bool → (List ℕ → V → Type 0) → (V → List ℕ → List ℕ → V → Type 0) → (W → List ℕ → List ℕ → List ℕ → List ℕ → W → Type 0) → W → W → State → Event → List ℕ → State → Type 0
+TakesEvent told Stands Plain Ran w x s event text t = RefusesEvent N.Memory s text t ⊎ Tells told Stands Plain Ran w x s event text t
 
-module _ {V : Type 0} (told : Bool) (Stands : List ℕ → V → Type 0) (Plain : V → List ℕ → List ℕ → V → Type 0) (Cause : No → Type 0) (s : State) where
+module _ {W V : Type 0} (told : Bool) (Stands : List ℕ → V → Type 0) (Plain : V → List ℕ → List ℕ → V → Type 0) (Ran : W → List ℕ → List ℕ → List ℕ → List ℕ → W → Type 0) (w x : W) (Empty : List ℕ → Type 0) (Cause : Option BlockId → No → Type 0) (s : State) where
   -- a line for a head that is refused for a cause
-  abbrev pub IsRefused : List ℕ → State → Type 0
-  IsRefused text t = (refusal : No) × Cause refusal × RefusesEvent refusal s text t
+  abbrev pub IsRefused : Option BlockId → List ℕ → State → Type 0
+  IsRefused root text t = (refusal : No) × Cause root refusal × RefusesEvent refusal s text t
 
-  -- a head with a root: the event is given where the root stands for a value
+  -- a head with a root: the event is given where the root stands for a value, and asks nothing of the work
   abbrev pub HeadTurn : List ℕ → BlockId → List ℕ → State → Type 0
-  HeadTurn name root text t = IsRefused text t ⊎ ((IsTrue told → IsValue Stands root.0) × TakesEvent told Stands Plain s (E.Head name root) text t)
+  HeadTurn name root text t = IsRefused (Some root) text t ⊎ ((IsTrue told → IsValue Stands root.0) × TakesEvent told Stands Plain Ran x x s (E.Head name root) text t)
 
-  -- a head with the empty value, whatever its root is
+  -- a head with the empty value: the event is given with its root
   abbrev pub EmptyTurn : List ℕ → List ℕ → State → Type 0
-  EmptyTurn name text t = IsRefused text t ⊎ ((root : BlockId) × (IsTrue told → IsValue Stands root.0) × TakesEvent told Stands Plain s (E.Head name root) text t)
+  EmptyTurn name text t = IsRefused None text t ⊎ ((root : BlockId) × (IsTrue told → IsValue Stands root.0) × Empty root.0 × TakesEvent told Stands Plain Ran x x s (E.Head name root) text t)
 
   abbrev pub EventTurn : Event → List ℕ → State → Type 0
   EventTurn (E.Head name root) text t = HeadTurn name root text t
-  EventTurn (E.Begin n name) text t = TakesEvent told Stands Plain s (E.Begin n name) text t
-  EventTurn (E.Line n line) text t = TakesEvent told Stands Plain s (E.Line n line) text t
-  EventTurn (E.Commit n) text t = TakesEvent told Stands Plain s (E.Commit n) text t
-  EventTurn (E.Replay n) text t = TakesEvent told Stands Plain s (E.Replay n) text t
-  EventTurn (E.Abort n) text t = TakesEvent told Stands Plain s (E.Abort n) text t
+  EventTurn (E.Begin n name) text t = TakesEvent told Stands Plain Ran w x s (E.Begin n name) text t
+  EventTurn (E.Line n line) text t = TakesEvent told Stands Plain Ran w x s (E.Line n line) text t
+  EventTurn (E.Commit n) text t = TakesEvent told Stands Plain Ran w x s (E.Commit n) text t
+  EventTurn (E.Replay n) text t = TakesEvent told Stands Plain Ran w x s (E.Replay n) text t
+  EventTurn (E.Abort n) text t = TakesEvent told Stands Plain Ran w x s (E.Abort n) text t
 
   abbrev pub AskedTurn : Asked → List ℕ → State → Type 0
   AskedTurn (A.Empty name) text t = EmptyTurn name text t

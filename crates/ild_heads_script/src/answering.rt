@@ -33,13 +33,14 @@ pub fn said_text(alloc: Global, said: &Said) -> Result<Octets, AllocError>
     }
 }
 
-/// TakesEvent an event.
+/// Takes an event.
 fn take<R: Roots>(heads: &mut Heads, event: Event, work: &mut R) -> Said
     requires legal { IsTrue (R.told work.old) → AreLegal (R.stands work.old) (R.plain (R.rules work.old)) heads.old }
     requires allowed { IsTrue (R.told work.old) → IsAllowed (R.stands work.old) event }
-    ensures said { TakesEvent (R.told work.new) (R.stands work.new) (R.plain (R.rules work.new)) heads.old event (said_text result) heads.new }
+    ensures said { TakesEvent (R.told work.new) (R.stands work.new) (R.plain (R.rules work.new)) R.ran work.old work.new heads.old event (said_text result) heads.new }
     ensures legal { IsTrue (R.told work.new) → AreLegal (R.stands work.new) (R.plain (R.rules work.new)) heads.new }
     ensures same { R.rules work.new ≡ R.rules work.old }
+    ensures later { R.later work.old work.new }
     ensures stays { Stays (R.told work.old) (R.stands work.old) (R.told work.new) (R.stands work.new) }
 {
     let session = event.session();
@@ -50,11 +51,13 @@ fn take<R: Roots>(heads: &mut Heads, event: Event, work: &mut R) -> Said
 }
 
 /// Makes a head with a root, where that stands for a value.
+#[tactic(auto, using(crate::proofs::Heading::head_takes))]
 fn make<R: Roots>(heads: &mut Heads, name: Txt, root: BlockId, work: &mut R) -> Said
     requires { IsTrue (R.told work.old) → AreLegal (R.stands work.old) (R.plain (R.rules work.old)) heads.old }
-    ensures said { HeadTurn (R.told work.new) (R.stands work.new) (R.plain (R.rules work.new)) (λ refusal. R.cause work.old refusal work.new) heads.old name root (said_text result) heads.new }
+    ensures said { HeadTurn (R.told work.new) (R.stands work.new) (R.plain (R.rules work.new)) R.ran work.old work.new (R.is_empty work.new) (λ root refusal. R.cause work.old root refusal work.new) heads.old name root (said_text result) heads.new }
     ensures legal { IsTrue (R.told work.new) → AreLegal (R.stands work.new) (R.plain (R.rules work.new)) heads.new }
     ensures same { R.rules work.new ≡ R.rules work.old }
+    ensures later { R.later work.old work.new }
     ensures stays { Stays (R.told work.old) (R.stands work.old) (R.told work.new) (R.stands work.new) }
 {
     match work.holds(&root) {
@@ -66,9 +69,10 @@ fn make<R: Roots>(heads: &mut Heads, name: Txt, root: BlockId, work: &mut R) -> 
 /// Makes a head with the empty value.
 fn make_empty<R: Roots>(heads: &mut Heads, name: Txt, work: &mut R) -> Said
     requires { IsTrue (R.told work.old) → AreLegal (R.stands work.old) (R.plain (R.rules work.old)) heads.old }
-    ensures said { EmptyTurn (R.told work.new) (R.stands work.new) (R.plain (R.rules work.new)) (λ refusal. R.cause work.old refusal work.new) heads.old name (said_text result) heads.new }
+    ensures said { EmptyTurn (R.told work.new) (R.stands work.new) (R.plain (R.rules work.new)) R.ran work.old work.new (R.is_empty work.new) (λ root refusal. R.cause work.old root refusal work.new) heads.old name (said_text result) heads.new }
     ensures legal { IsTrue (R.told work.new) → AreLegal (R.stands work.new) (R.plain (R.rules work.new)) heads.new }
     ensures same { R.rules work.new ≡ R.rules work.old }
+    ensures later { R.later work.old work.new }
     ensures stays { Stays (R.told work.old) (R.stands work.old) (R.told work.new) (R.stands work.new) }
 {
     match work.empty() {
@@ -80,9 +84,10 @@ fn make_empty<R: Roots>(heads: &mut Heads, name: Txt, work: &mut R) -> Said
 /// What an event that a line gives is answered.
 fn event_said<R: Roots>(heads: &mut Heads, event: Event, work: &mut R) -> Said
     requires { IsTrue (R.told work.old) → AreLegal (R.stands work.old) (R.plain (R.rules work.old)) heads.old }
-    ensures said { EventTurn (R.told work.new) (R.stands work.new) (R.plain (R.rules work.new)) (λ refusal. R.cause work.old refusal work.new) heads.old event (said_text result) heads.new }
+    ensures said { EventTurn (R.told work.new) (R.stands work.new) (R.plain (R.rules work.new)) R.ran work.old work.new (R.is_empty work.new) (λ root refusal. R.cause work.old root refusal work.new) heads.old event (said_text result) heads.new }
     ensures legal { IsTrue (R.told work.new) → AreLegal (R.stands work.new) (R.plain (R.rules work.new)) heads.new }
     ensures same { R.rules work.new ≡ R.rules work.old }
+    ensures later { R.later work.old work.new }
     ensures stays { Stays (R.told work.old) (R.stands work.old) (R.told work.new) (R.stands work.new) }
 {
     match event {
@@ -98,9 +103,10 @@ fn event_said<R: Roots>(heads: &mut Heads, event: Event, work: &mut R) -> Said
 /// Answers a line that isn't empty.
 fn answer_some<R: Roots>(alloc: Global, heads: &mut Heads, line: &[u8], work: &mut R) -> Said
     requires { IsTrue (R.told work.old) → AreLegal (R.stands work.old) (R.plain (R.rules work.old)) heads.old }
-    ensures said { SomeTurn (R.told work.new) (R.stands work.new) (R.plain (R.rules work.new)) (λ refusal. R.cause work.old refusal work.new) heads.old line.now (said_text result) heads.new }
+    ensures said { SomeTurn (R.told work.new) (R.stands work.new) (R.plain (R.rules work.new)) R.ran work.old work.new (R.is_empty work.new) (λ root refusal. R.cause work.old root refusal work.new) heads.old line.now (said_text result) heads.new }
     ensures legal { IsTrue (R.told work.new) → AreLegal (R.stands work.new) (R.plain (R.rules work.new)) heads.new }
     ensures same { R.rules work.new ≡ R.rules work.old }
+    ensures later { R.later work.old work.new }
     ensures stays { Stays (R.told work.old) (R.stands work.old) (R.told work.new) (R.stands work.new) }
 {
     match asked_of(alloc, line) {
@@ -115,9 +121,10 @@ fn answer_some<R: Roots>(alloc: Global, heads: &mut Heads, line: &[u8], work: &m
 /// Answers a line over heads, by the event that it gives, if it gives one.
 pub fn answer<R: Roots>(alloc: Global, heads: &mut Heads, line: &[u8], work: &mut R) -> Said
     requires { IsTrue (R.told work.old) → AreLegal (R.stands work.old) (R.plain (R.rules work.old)) heads.old }
-    ensures said { LineTurn (R.told work.new) (R.stands work.new) (R.plain (R.rules work.new)) (λ refusal. R.cause work.old refusal work.new) heads.old line.now (said_text result) heads.new }
+    ensures said { LineTurn (R.told work.new) (R.stands work.new) (R.plain (R.rules work.new)) R.ran work.old work.new (R.is_empty work.new) (λ root refusal. R.cause work.old root refusal work.new) heads.old line.now (said_text result) heads.new }
     ensures legal { IsTrue (R.told work.new) → AreLegal (R.stands work.new) (R.plain (R.rules work.new)) heads.new }
     ensures same { R.rules work.new ≡ R.rules work.old }
+    ensures later { R.later work.old work.new }
     ensures stays { Stays (R.told work.old) (R.stands work.old) (R.told work.new) (R.stands work.new) }
 {
     if line.is_empty() {
