@@ -1,0 +1,2 @@
+pub mod NamedBlock
+pub mod NamedDocs
