@@ -51,5 +51,5 @@ returns-in_err-schema-2-clause-only c = λ name id d wide h.
 pub returns-clause-found : goal.returns-clause-found
 returns-clause-found c = λ t h.
     let x = parts_found t c.args.root.now _ _ _ _ _ c.in_ok-ty.ty c.in_ok-value.value c.in_ok-schema.schema c.in_ok-name.name.now c.in_ok-schema-2.schema.0 c.next.result (c.in_ok-entries.ensures t h)
-        c.in_ok-ty.ensures c.in_ok-value.ensures c.in_ok-schema.ensures c.next.ensures.steps (sym c.is_some.ensures ∙ c.if-is_some.false) (λ d s. sym (c.in_ok-name.ensures d s)) c.in_ok-schema-2.ensures.found in
+    c.in_ok-ty.ensures c.in_ok-value.ensures c.in_ok-schema.ensures c.next.ensures.steps (sym c.is_some.ensures ∙ c.if-is_some.false) (λ d s. sym (c.in_ok-name.ensures d s)) c.in_ok-schema-2.ensures.found in
     record { value = x.tree; is = x.is; wide = c.in_ok-schema-2.ensures.wide; part = x.part }
