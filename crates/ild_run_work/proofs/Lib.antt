@@ -1,0 +1,3 @@
+mod Ran
+mod Starting
+mod Stepping
