@@ -135,14 +135,17 @@ module _ (h : List ℕ → List ℕ) (rows : List Row) (n : TypeNo) (c : Value) 
   answer_is keeps (Err H.Size) r x is = subst Answers (sym is) (⊎_elim long_node long_part x)
   answer_is keeps (Err H.Store) r x is = subst Answers (sym is) x
   answer_is keeps (Err (H.Clash id kept new)) r x is =
-      subst Answers (sym is.0)
-      (record {
-        kept = kept;
-        new = new;
-        held = if_map k.blocks (λ held. block_at held id.0 ≡ Some kept) (λ held. (block_at held (id_of kept) ≡ Some kept) × Unit {0}) (λ held y. (ap (block_at held) x.2.0 ∙ y, tt)) x.2.3;
-        among = in_short Blocks new (in_blocks new x.0) x.1;
-        collide = record { kept_bytes = is.1; new_bytes = is.2; differ = x.2.2; one_id = x.2.0 ∙ sym x.2.1 };
-      })
+      subst Answers (sym is.0) (
+        record {
+          kept = kept;
+          new = new;
+          held = if_map k.blocks (λ held. block_at held id.0 ≡ Some kept) (λ held. (block_at held (id_of kept) ≡ Some kept) × Unit {0}) (λ held y. (ap (block_at held) x.2.0 ∙ y, tt)) x.2.3;
+          among = in_short Blocks new (in_blocks new x.0) x.1;
+          collide = record { kept_bytes = is.1; new_bytes = is.2; differ = x.2.2; one_id = x.2.0 ∙ sym x.2.1 };
+        },
+        refl,
+        refl,
+      )
   answer_is keeps (Err H.Memory) r x is = subst Answers (sym is) tt
   answer_is keeps (Err H.Exhausted) r x is = absurd x
   answer_is keeps (Err H.NoKey) r x is = absurd x

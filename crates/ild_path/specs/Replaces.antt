@@ -75,7 +75,7 @@ ReplaceAnswer h rows n c u m (Err F.Exhausted) k = ⊥
 ReplaceAnswer h rows n c u m (Err F.NoKey) k = ⊥
 ReplaceAnswer h rows n c u m (Err F.Size) k = (b : List ℕ) × Contains (blocks_of bare h rows n c u) b × (longest_block < length b)
 ReplaceAnswer h rows n c u m (Err F.Store) k = Rose m.faults k.faults
-ReplaceAnswer h rows n c u m (Err (F.Clash id kept new)) k = Collides k (short (blocks_of bare h rows n c u))
+ReplaceAnswer h rows n c u m (Err (F.Clash id kept new)) k = (x : Collides k (short (blocks_of bare h rows n c u))) × (x.kept ≡ kept) × (x.new ≡ new)
 ReplaceAnswer h rows n c u m (Err F.Memory) k = Unit {0}
 
 -- At every exit, blocks of the changed value that are not too long came alone, each with its children held, by as many puts as there are on

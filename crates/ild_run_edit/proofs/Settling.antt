@@ -135,7 +135,7 @@ module _ (h : List ℕ → List ℕ) (rows : List Row) (t : Tests) (n : TypeNo) 
   answer m k (Err F.NoKey) a p = absurd a
   answer m k (Err F.Size) a p = inl (too_long a.0 a.1 a.2)
   answer m k (Err F.Store) a p = inr a
-  answer m k (Err (F.Clash id kept new)) a p = inr (subst (Collides k) (sym adds_are) a)
+  answer m k (Err (F.Clash id kept new)) a p = inr (subst (Collides k) (sym adds_are) a.0)
   answer m k (Err F.Memory) a p = inr tt
 
   pub some_met : (p : ℕ) → p ≡ blocks_met h rows (plainly n, c) (path_of e) + new_nodes w v e → p ≡ 0 → ⊥
