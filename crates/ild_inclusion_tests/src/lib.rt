@@ -8,6 +8,8 @@ mod damaged;
 #[cfg(test)]
 mod large;
 #[cfg(test)]
+mod made;
+#[cfg(test)]
 mod said;
 #[cfg(test)]
 mod told;

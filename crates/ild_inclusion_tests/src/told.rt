@@ -26,7 +26,7 @@ pub(crate) fn schema(alloc: Global) -> Result<Accepted, Fail> {
     }
 }
 
-fn path_of(alloc: Global, segments: &[&str]) -> Option<Path> {
+pub(crate) fn path_of(alloc: Global, segments: &[&str]) -> Option<Path> {
     let mut path = Path::new(alloc);
     for segment in segments {
         path.push(Txt::of(alloc, segment).ok()?).ok()?;
