@@ -1,0 +1,4 @@
+pub mod Broken
+pub mod Described
+pub mod Opened
+pub mod inside
