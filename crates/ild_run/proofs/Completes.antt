@@ -13,6 +13,7 @@ use Rattle.ild_run.specs.Words.{Job, checks}
 use Rattle.ild_run.specs.Ended.{Call, IsDue, AsksScript, TriesValue, ReadsRoot, Says, Ended}
 use Rattle.ild_run.specs.Complete.{IsGivenSchema, IsCalm, IsComplete}
 use Rattle.ild_run.proofs.CompletesPair.{compared_by}
+use Rattle.ild_run.proofs.CompletesProof.{verified_by}
 use Rattle.ild_run.proofs.Matchings.{other_sort}
 use Rattle.ild_run.specs.Listed.{Lists}
 use Rattle.ild_run.proofs.CompletesValue.{created_by}
@@ -79,6 +80,7 @@ no_check_fault c rows given calm t (F.Clash id) taken (inl due) = absurd (no_che
 no_check_fault c rows given calm t (F.Clash id) taken (inr clash) = absurd (no_check_value (work_of c.job t) rows clash.value.rows clash.value.type clash.value.bytes (checked_work c rows given t taken) clash.value.work)
 no_check_fault c rows given calm t (F.Value r) taken (inl due) = absurd (let x = due.1 in no_check_answers (work_of c.job t) rows x.script.rows x.script.type x.script.start x.script.bytes (checked_work c rows given t taken) x.script.work)
 no_check_fault c rows given calm t (F.Value r) taken (inr due) = absurd (no_check_value (work_of c.job t) rows due.value.rows due.value.type due.value.bytes (checked_work c rows given t taken) due.value.work)
+no_check_fault c rows given calm t F.Proof taken due = absurd (other_sort _ _ _ (checked_work c rows given t taken) due.proof.work refl refl)
 no_check_fault c rows given calm t (F.Root id why) taken (inl due) = absurd (no_check_answers (work_of c.job t) rows due.script.rows due.script.type due.script.start due.script.bytes (checked_work c rows given t taken) due.script.work)
 no_check_fault c rows given calm t (F.Root id why) taken (inr due) = absurd (no_check_root (work_of c.job t) rows due.opened.rows due.opened.type due.opened.root (checked_work c rows given t taken) due.opened.work)
 
@@ -92,12 +94,14 @@ IsListed c rows status = (status ≡ S.Memory) ⊎ ((status ≡ S.Done) × Lists
 listed_by : (c : Call) (rows : List Row) (given : IsGivenSchema c rows) (calm : IsCalm c) (t : Taking) (status : Status) → AreTaken c.job c.before.supply t → Says c t status → IsListed c rows status
 listed_by c rows given calm t S.Done taken (inl all) = absurd (no_check_answers (work_of c.job t) rows all.script.rows all.script.type all.script.start all.script.bytes (checked_work c rows given t taken) all.script.work)
 listed_by c rows given calm t S.Done taken (inr (inr (inl created))) = absurd (no_check_value (work_of c.job t) rows created.value.rows created.value.type created.value.bytes (checked_work c rows given t taken) created.value.work)
-listed_by c rows given calm t S.Done taken (inr (inr (inr (inr told)))) = absurd (other_sort _ _ _ (checked_work c rows given t taken) told.types.work refl refl)
+listed_by c rows given calm t S.Done taken (inr (inr (inr (inr (inl told))))) = absurd (other_sort _ _ _ (checked_work c rows given t taken) told.types.work refl refl)
+listed_by c rows given calm t S.Done taken (inr (inr (inr (inr (inr told))))) = absurd (other_sort _ _ _ (checked_work c rows given t taken) told.proof.work refl refl)
 listed_by c rows given calm t S.Done taken (inr (inr (inr (inl shows)))) = absurd (let has = shows.1.has in no_check_root (work_of c.job t) rows has.opened.rows has.opened.type has.opened.root (checked_work c rows given t taken) has.opened.work)
 listed_by c rows given calm t S.Done taken (inr (inl listed)) =
     inr (refl, subst (λ (names : List (List ℕ)). Lists names c.before.output c.after.output) (same_names (work_of c.job t) listed.names rows (checked_work c rows given t taken) listed.work) listed.written)
 listed_by c rows given calm t S.Refused taken (inl all) = absurd (no_check_answers (work_of c.job t) rows all.script.rows all.script.type all.script.start all.script.bytes (checked_work c rows given t taken) all.script.work)
-listed_by c rows given calm t S.Refused taken (inr (inr told)) = absurd (other_sort _ _ _ (checked_work c rows given t taken) told.1.types.work refl refl)
+listed_by c rows given calm t S.Refused taken (inr (inr (inl told))) = absurd (other_sort _ _ _ (checked_work c rows given t taken) told.1.types.work refl refl)
+listed_by c rows given calm t S.Refused taken (inr (inr (inr told))) = absurd (other_sort _ _ _ (checked_work c rows given t taken) told.proof.work refl refl)
 listed_by c rows given calm t S.Refused taken (inr (inl shows)) = absurd (let has = shows.has in no_check_root (work_of c.job t) rows has.opened.rows has.opened.type has.opened.root (checked_work c rows given t taken) has.opened.work)
 listed_by c rows given calm t S.Memory taken says = inl refl
 listed_by c rows given calm t S.SinkFault taken says = absurd (calm.sink says.0)
@@ -107,7 +111,8 @@ listed_by c rows given calm t S.Input taken says = absurd (let e = no_check_faul
 listed_by c rows given calm t S.StoreFault taken (inl tells) = absurd (let e = no_check_fault c rows given calm t F.Store taken tells.due in cc)
 listed_by c rows given calm t S.StoreFault taken (inr tells) = absurd (let e = no_check_fault c rows given calm t (F.Clash tells.0) taken tells.1.due in cc)
 listed_by c rows given calm t S.Root taken says = absurd (let e = no_check_fault c rows given calm t (F.Root says.0 says.1) taken says.2.due in cc)
-listed_by c rows given calm t S.Value taken says = absurd (let e = no_check_fault c rows given calm t (F.Value says.0) taken says.1.due in cc)
+listed_by c rows given calm t S.Value taken (inl says) = absurd (let e = no_check_fault c rows given calm t (F.Value says.0) taken says.1.due in cc)
+listed_by c rows given calm t S.Value taken (inr tells) = absurd (let e = no_check_fault c rows given calm t F.Proof taken tells.due in cc)
 
 -- a call that ended with its cause is complete
 pub complete_from : (c : Call) (status : Status) → Ended c status → IsComplete c status
@@ -117,4 +122,5 @@ complete_from c status ended = record {
   creates = λ v d given calm. created_by c v d given calm ended.taking status ended.taken ended.says;
   shows = λ v given calm. shown_by c v given calm ended.taking status ended.taken ended.says;
   compares = λ given calm. compared_by c given calm ended.taking status ended.taken ended.says;
+  verifies = λ given calm. verified_by c given calm ended.taking status ended.taken ended.says;
 }

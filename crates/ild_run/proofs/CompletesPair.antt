@@ -9,7 +9,7 @@ use Rattle.ild_run_compare.specs.Compared.{IsTold}
 use Rattle.ild_schema.specs.Names.{number_named}
 use Rattle.ild_schema.specs.declared.number.TypeNo.{TypeNo}
 use Rattle.ild_schema.specs.declared.row.Row.{Row}
-use Rattle.ild_run.specs.Work.{Work, Taking, ends, lists, matches, answers, makes, opens, types_work, next_compiled, next_work, compiled_work, schema_work, job_work, work_of, IsVerdict, IsTaking, AreTaken}
+use Rattle.ild_run.specs.Work.{Work, Taking, ends, lists, matches, answers, makes, opens, weighs, types_work, next_compiled, next_work, compiled_work, schema_work, job_work, work_of, IsVerdict, IsTaking, AreTaken}
 use Rattle.ild_run.specs.Words.{Job, compares}
 use Rattle.ild_run.specs.Ended.{Call, IsDue, AsksScript, TriesValue, ReadsRoot, MatchesTypes, Says}
 use Rattle.ild_run.specs.Complete.{IsGivenPair, IsCalm, ComparesPlainly}
@@ -32,6 +32,7 @@ OfMatched P (lists names) = ⊥
 OfMatched P (answers rows n start b) = ⊥
 OfMatched P (makes rows n b) = ⊥
 OfMatched P (opens rows n id) = ⊥
+OfMatched P (weighs rows n id path b) = ⊥
 
 no_end : (w : Work) (f : Fault) (rows others : List Row) (m n : TypeNo) → Comparing w rows others m n → (f ≡ F.Memory → ⊥) → w ≡ ends f → ⊥
 no_end w f rows others m n (inl is) other ended = let e : matches rows others m n ≡ ends f = sym is ∙ ended in cc
@@ -98,6 +99,7 @@ module _ (c : Call) (given : IsGivenPair c) where
     no_fault (F.Clash id) (inr due) = absurd (other_sort _ _ _ here due.value.work refl refl)
     no_fault (F.Value r) (inl due) = absurd (other_sort _ _ _ here due.1.script.work refl refl)
     no_fault (F.Value r) (inr due) = absurd (other_sort _ _ _ here due.value.work refl refl)
+    no_fault F.Proof due = absurd (other_sort _ _ _ here due.proof.work refl refl)
     no_fault (F.Root id why) (inl due) = absurd (other_sort _ _ _ here due.script.work refl refl)
     no_fault (F.Root id why) (inr due) = absurd (other_sort _ _ _ here due.opened.work refl refl)
 
@@ -118,10 +120,12 @@ module _ (c : Call) (given : IsGivenPair c) where
     by_status S.Done (inr (inl listed)) = absurd (other_sort _ _ _ here listed.work refl refl)
     by_status S.Done (inr (inr (inl made))) = absurd (other_sort _ _ _ here made.value.work refl refl)
     by_status S.Done (inr (inr (inr (inl shows)))) = absurd (other_sort _ _ _ here shows.1.has.opened.work refl refl)
-    by_status S.Done (inr (inr (inr (inr told)))) = inr (None, (refl, said None told))
+    by_status S.Done (inr (inr (inr (inr (inl told))))) = inr (None, (refl, said None told))
+    by_status S.Done (inr (inr (inr (inr (inr told))))) = absurd (other_sort _ _ _ here told.proof.work refl refl)
     by_status S.Refused (inl all) = absurd (other_sort _ _ _ here all.script.work refl refl)
     by_status S.Refused (inr (inl shows)) = absurd (other_sort _ _ _ here shows.has.opened.work refl refl)
-    by_status S.Refused (inr (inr told)) = inr (Some told.0, (refl, said (Some told.0) told.1))
+    by_status S.Refused (inr (inr (inr told))) = absurd (other_sort _ _ _ here told.proof.work refl refl)
+    by_status S.Refused (inr (inr (inl told))) = inr (Some told.0, (refl, said (Some told.0) told.1))
     by_status S.Memory says = inl refl
     by_status S.SinkFault says = absurd (calm.sink says.0)
     by_status S.Words says = absurd (let e = no_fault F.Words says.due in cc)
@@ -130,7 +134,8 @@ module _ (c : Call) (given : IsGivenPair c) where
     by_status S.StoreFault (inl tells) = absurd (let e = no_fault F.Store tells.due in cc)
     by_status S.StoreFault (inr tells) = absurd (let e = no_fault (F.Clash tells.0) tells.1.due in cc)
     by_status S.Root says = absurd (let e = no_fault (F.Root says.0 says.1) says.2.due in cc)
-    by_status S.Value says = absurd (let e = no_fault (F.Value says.0) says.1.due in cc)
+    by_status S.Value (inl says) = absurd (let e = no_fault (F.Value says.0) says.1.due in cc)
+    by_status S.Value (inr tells) = absurd (let e = no_fault F.Proof tells.due in cc)
 
 pub compared_by : (c : Call) (given : IsGivenPair c) → IsCalm c → (t : Taking) (status : Status) → AreTaken c.job c.before.supply t → Says c t status
     → (status ≡ S.Memory) ⊎ ComparesPlainly c given.typed.rows given.next.rows given.typed.type given.next.type status

@@ -14,7 +14,7 @@ use Rattle.ild_run_show.specs.Shows.{HasShown, NotOpened}
 use Rattle.ild_run_show.proofs.OneShown.{shown_stands, none_refused}
 use Rattle.ild_typed.specs.Shown.{shown}
 use Rattle.ild_run_open.specs.declared.start.Start.{Start}
-use Rattle.ild_run.specs.Work.{Work, Taking, ends, lists, matches, answers, makes, opens, root_work, compiled_work, schema_work, job_work, work_of, IsVerdict, IsTaking, AreTaken}
+use Rattle.ild_run.specs.Work.{Work, Taking, ends, lists, matches, answers, makes, opens, weighs, root_work, compiled_work, schema_work, job_work, work_of, IsVerdict, IsTaking, AreTaken}
 use Rattle.ild_run.specs.Shown.{hash}
 use Rattle.ild_run.specs.Words.{Job, shows}
 use Rattle.ild_run.specs.Ended.{Call, IsDue, HasRoot, Says}
@@ -79,6 +79,7 @@ OfOpened P (opens rows n id) = P rows n id
 OfOpened P (ends f) = ⊥
 OfOpened P (lists names) = ⊥
 OfOpened P (matches rows others m n) = ⊥
+OfOpened P (weighs rows n id path b) = ⊥
 OfOpened P (answers rows n start b) = ⊥
 OfOpened P (makes rows n b) = ⊥
 
@@ -105,6 +106,7 @@ no_fault c v given calm t (F.Clash id) taken (inl due) = absurd (no_answers (wor
 no_fault c v given calm t (F.Clash id) taken (inr clash) = absurd (no_value (work_of c.job t) clash.value.rows clash.value.type clash.value.bytes given.typed.rows given.typed.type given.root (work_opens c v given t taken) clash.value.work)
 no_fault c v given calm t (F.Value r) taken (inl due) = absurd (let x = due.1 in no_answers (work_of c.job t) given.typed.rows given.typed.type given.root x.script.rows x.script.type x.script.start x.script.bytes (work_opens c v given t taken) x.script.work)
 no_fault c v given calm t (F.Value r) taken (inr due) = absurd (no_value (work_of c.job t) due.value.rows due.value.type due.value.bytes given.typed.rows given.typed.type given.root (work_opens c v given t taken) due.value.work)
+no_fault c v given calm t F.Proof taken due = absurd (other_sort _ _ _ (work_opens c v given t taken) due.proof.work refl refl)
 no_fault c v given calm t (F.Root id why) taken (inl due) = absurd (no_answers (work_of c.job t) given.typed.rows given.typed.type given.root due.script.rows due.script.type due.script.start due.script.bytes (work_opens c v given t taken) due.script.work)
 no_fault c v given calm t (F.Root id why) taken (inr due) =
     let P : List Row → TypeNo → List ℕ → Type 0 = λ rows n root. NotOpened hash rows n root c.before.moment id.0 why c.after.moment in
@@ -122,11 +124,13 @@ pub shown_by : (c : Call) (v : Typed) (given : IsGivenRoot c v) → IsFaultless 
 shown_by c v given calm t S.Done taken (inl all) = absurd (no_answers (work_of c.job t) given.typed.rows given.typed.type given.root all.script.rows all.script.type all.script.start all.script.bytes (work_opens c v given t taken) all.script.work)
 shown_by c v given calm t S.Done taken (inr (inl listed)) = absurd (no_list (work_of c.job t) listed.names given.typed.rows given.typed.type given.root (work_opens c v given t taken) listed.work)
 shown_by c v given calm t S.Done taken (inr (inr (inl made))) = absurd (no_value (work_of c.job t) made.value.rows made.value.type made.value.bytes given.typed.rows given.typed.type given.root (work_opens c v given t taken) made.value.work)
-shown_by c v given calm t S.Done taken (inr (inr (inr (inr told)))) = absurd (other_sort _ _ _ (work_opens c v given t taken) told.types.work refl refl)
+shown_by c v given calm t S.Done taken (inr (inr (inr (inr (inl told))))) = absurd (other_sort _ _ _ (work_opens c v given t taken) told.types.work refl refl)
+shown_by c v given calm t S.Done taken (inr (inr (inr (inr (inr told))))) = absurd (other_sort _ _ _ (work_opens c v given t taken) told.proof.work refl refl)
 shown_by c v given calm t S.Done taken (inr (inr (inr (inl there)))) =
     inr (subst (ShownBy c S.Done) (sym (same_json c v given t (Some there.0) taken there.1.has)) (refl, there.1.written))
 shown_by c v given calm t S.Refused taken (inl all) = absurd (no_answers (work_of c.job t) given.typed.rows given.typed.type given.root all.script.rows all.script.type all.script.start all.script.bytes (work_opens c v given t taken) all.script.work)
-shown_by c v given calm t S.Refused taken (inr (inr told)) = absurd (other_sort _ _ _ (work_opens c v given t taken) told.1.types.work refl refl)
+shown_by c v given calm t S.Refused taken (inr (inr (inl told))) = absurd (other_sort _ _ _ (work_opens c v given t taken) told.1.types.work refl refl)
+shown_by c v given calm t S.Refused taken (inr (inr (inr told))) = absurd (other_sort _ _ _ (work_opens c v given t taken) told.proof.work refl refl)
 shown_by c v given calm t S.Refused taken (inr (inl there)) = inr (subst (ShownBy c S.Refused) (sym (same_json c v given t None taken there.has)) (refl, there.written))
 shown_by c v given calm t S.Memory taken says = inl refl
 shown_by c v given calm t S.SinkFault taken says = absurd (calm.calm.sink says.0)
@@ -136,4 +140,5 @@ shown_by c v given calm t S.Input taken says = absurd (let e = no_fault c v give
 shown_by c v given calm t S.StoreFault taken (inl tells) = absurd (let e = no_fault c v given calm t F.Store taken tells.due in cc)
 shown_by c v given calm t S.StoreFault taken (inr tells) = absurd (let e = no_fault c v given calm t (F.Clash tells.0) taken tells.1.due in cc)
 shown_by c v given calm t S.Root taken says = absurd (let e = no_fault c v given calm t (F.Root says.0 says.1) taken says.2.due in cc)
-shown_by c v given calm t S.Value taken says = absurd (let e = no_fault c v given calm t (F.Value says.0) taken says.1.due in cc)
+shown_by c v given calm t S.Value taken (inl says) = absurd (let e = no_fault c v given calm t (F.Value says.0) taken says.1.due in cc)
+shown_by c v given calm t S.Value taken (inr tells) = absurd (let e = no_fault c v given calm t F.Proof taken tells.due in cc)

@@ -33,7 +33,7 @@ use Rattle.ild_script_session.specs.Step.{Carries}
 use Rattle.ild_typed.proofs.TreeKept.{one_stands}
 use Rattle.ild_typed.specs.Schema.{IsSchema}
 use Rattle.ild_typed.specs.Stands.{bare, IsFrame, Stands}
-use Rattle.ild_run.specs.Work.{Work, Taking, ends, lists, matches, answers, makes, opens, run_work, compiled_work, schema_work, job_work, work_of, IsVerdict, IsTaking, AreTaken}
+use Rattle.ild_run.specs.Work.{Work, Taking, ends, lists, matches, answers, makes, opens, weighs, run_work, compiled_work, schema_work, job_work, work_of, IsVerdict, IsTaking, AreTaken}
 use Rattle.ild_run.specs.Words.{Job, runs}
 use Rattle.ild_run.specs.Ended.{Call, IsDue, AnswersAll, Says}
 use Rattle.ild_run.specs.Complete.{IsGiven, IsUndisturbed, AnswersPlainly}
@@ -82,6 +82,7 @@ OfRun Q (lists names) = ⊥
 OfRun Q (matches rows others m n) = ⊥
 OfRun Q (makes rows n b) = ⊥
 OfRun Q (opens rows n id) = ⊥
+OfRun Q (weighs rows n id path b) = ⊥
 
 said : (Q : List Row → TypeNo → Start → List ℕ → Type 0) (w : Work) (rows run : List Row) (n m : TypeNo) (start s : Start) (b d : List ℕ) → Running w rows n start b → w ≡ answers run m s d → Q run m s d → Q rows n start b
 said Q w rows run n m start s b d (inl is) work q = subst (OfRun Q) (sym work ∙ is) q
@@ -179,6 +180,7 @@ module _ (c : Call) (tests : Tests) (v : Typed) (script : List ℕ) (given : IsG
         let it = said (λ rows n start b. Stops hash rows n start c.before.moment P.Mismatch c.after.moment) (work_of c.job t) given.typed.rows x.script.rows given.typed.type x.script.type given.start x.script.start script x.script.bytes here x.script.work x.stops in
         absurd (start_empty given.typed.rows given.typed.type given.start v given.held c.before.moment c.after.moment it given.starts)
     no_fault (F.Value r) (inr due) = absurd (makes_not due.value.rows due.value.type due.value.bytes due.value.work)
+    no_fault F.Proof due = absurd (other_sort _ _ _ here due.proof.work refl refl)
     no_fault (F.Root id why) (inl due) =
         let it = said (λ rows n start b. Stops hash rows n start c.before.moment (P.Block id why) c.after.moment) (work_of c.job t) given.typed.rows due.script.rows given.typed.type due.script.type given.start due.script.start script due.script.bytes here due.script.work due.stops in
         absurd (start_there given.typed.rows given.typed.type given.start v given.held c.before.moment c.after.moment id why given.store it given.starts)
@@ -216,10 +218,12 @@ module _ (c : Call) (tests : Tests) (v : Typed) (script : List ℕ) (given : IsG
     run_by S.Done (inl all) = inr (plainly S.Done false refl all)
     run_by S.Done (inr (inl listed)) = absurd (no_list (work_of c.job t) listed.names given.typed.rows given.typed.type given.start script here listed.work)
     run_by S.Done (inr (inr (inl created))) = absurd (makes_not created.value.rows created.value.type created.value.bytes created.value.work)
-    run_by S.Done (inr (inr (inr (inr told)))) = absurd (other_sort _ _ _ here told.types.work refl refl)
+    run_by S.Done (inr (inr (inr (inr (inl told))))) = absurd (other_sort _ _ _ here told.types.work refl refl)
+    run_by S.Done (inr (inr (inr (inr (inr told))))) = absurd (other_sort _ _ _ here told.proof.work refl refl)
     run_by S.Done (inr (inr (inr (inl shows)))) = absurd (let has = shows.1.has in opens_not has.opened.rows has.opened.type has.opened.root has.opened.work)
     run_by S.Refused (inl all) = inr (plainly S.Refused true refl all)
-    run_by S.Refused (inr (inr told)) = absurd (other_sort _ _ _ here told.1.types.work refl refl)
+    run_by S.Refused (inr (inr (inl told))) = absurd (other_sort _ _ _ here told.1.types.work refl refl)
+    run_by S.Refused (inr (inr (inr told))) = absurd (other_sort _ _ _ here told.proof.work refl refl)
     run_by S.Refused (inr (inl shows)) = absurd (let has = shows.has in opens_not has.opened.rows has.opened.type has.opened.root has.opened.work)
     run_by S.Memory says = inl refl
     run_by S.SinkFault says = absurd (calm.faultless.calm.sink says.0)
@@ -229,4 +233,5 @@ module _ (c : Call) (tests : Tests) (v : Typed) (script : List ℕ) (given : IsG
     run_by S.StoreFault (inl tells) = absurd (let e = no_fault F.Store tells.due in cc)
     run_by S.StoreFault (inr tells) = absurd (let e = no_fault (F.Clash tells.0) tells.1.due in cc)
     run_by S.Root says = absurd (let e = no_fault (F.Root says.0 says.1) says.2.due in cc)
-    run_by S.Value says = absurd (let e = no_fault (F.Value says.0) says.1.due in cc)
+    run_by S.Value (inl says) = absurd (let e = no_fault (F.Value says.0) says.1.due in cc)
+    run_by S.Value (inr tells) = absurd (let e = no_fault F.Proof tells.due in cc)

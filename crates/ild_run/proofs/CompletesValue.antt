@@ -18,7 +18,7 @@ use Rattle.ild_schema.specs.declared.number.TypeNo.{TypeNo}
 use Rattle.ild_schema.specs.declared.row.Row.{Row}
 use Rattle.ild_typed.specs.Stands.{bare, root_id, blocks_of, Stands}
 use Rattle.ild_run_open.specs.declared.start.Start.{Start}
-use Rattle.ild_run.specs.Work.{Work, Taking, ends, lists, matches, answers, makes, opens, type_work, compiled_work, schema_work, job_work, work_of, IsVerdict, IsTaking, AreTaken}
+use Rattle.ild_run.specs.Work.{Work, Taking, ends, lists, matches, answers, makes, opens, weighs, type_work, compiled_work, schema_work, job_work, work_of, IsVerdict, IsTaking, AreTaken}
 use Rattle.ild_run.specs.Shown.{hash}
 use Rattle.ild_run.specs.Words.{Job, creates}
 use Rattle.ild_run.specs.Ended.{Call, IsDue, CreatesValue, Says}
@@ -89,6 +89,7 @@ OfMade P (makes rows n b) = P rows n b
 OfMade P (ends f) = ⊥
 OfMade P (lists names) = ⊥
 OfMade P (matches rows others m n) = ⊥
+OfMade P (weighs rows n id path b) = ⊥
 OfMade P (answers rows n start b) = ⊥
 OfMade P (opens rows n id) = ⊥
 
@@ -122,6 +123,7 @@ no_fault c v d given calm t (F.Clash id) taken (inr clash) =
     subst (λ (x : Typed). Contains (blocks_of bare hash given.typed.rows given.typed.type x d) hit.new) same.0
     (subst (λ (x : Data). Contains (blocks_of bare hash given.typed.rows given.typed.type tried.value x) hit.new) same.1 hit.among) in
     absurd (calm.apart hit.kept hit.new among hit.held hit.collide)
+no_fault c v d given calm t F.Proof taken due = absurd (other_sort _ _ _ (work_makes c v d given t taken) due.proof.work refl refl)
 no_fault c v d given calm t (F.Root id why) taken (inl due) = absurd (no_answers (work_of c.job t) given.typed.rows given.typed.type given.bytes due.script.rows due.script.type due.script.start due.script.bytes (work_makes c v d given t taken) due.script.work)
 no_fault c v d given calm t (F.Root id why) taken (inr due) = absurd (no_root (work_of c.job t) due.opened.rows due.opened.type due.opened.root given.typed.rows given.typed.type given.bytes (work_makes c v d given t taken) due.opened.work)
 no_fault c v d given calm t (F.Value r) taken (inl due) = absurd (let x = due.1 in no_answers (work_of c.job t) given.typed.rows given.typed.type given.bytes x.script.rows x.script.type x.script.start x.script.bytes (work_makes c v d given t taken) x.script.work)
@@ -148,11 +150,13 @@ pub created_by : (c : Call) (v : Typed) (d : Data) (given : IsGivenValue c v d) 
 created_by c v d given calm t S.Done taken (inl all) = absurd (no_answers (work_of c.job t) given.typed.rows given.typed.type given.bytes all.script.rows all.script.type all.script.start all.script.bytes (work_makes c v d given t taken) all.script.work)
 created_by c v d given calm t S.Done taken (inr (inl listed)) = absurd (no_list (work_of c.job t) listed.names given.typed.rows given.typed.type given.bytes (work_makes c v d given t taken) listed.work)
 created_by c v d given calm t S.Done taken (inr (inr (inl made))) = inr (created_so c v d given t taken made)
-created_by c v d given calm t S.Done taken (inr (inr (inr (inr told)))) = absurd (other_sort _ _ _ (work_makes c v d given t taken) told.types.work refl refl)
+created_by c v d given calm t S.Done taken (inr (inr (inr (inr (inl told))))) = absurd (other_sort _ _ _ (work_makes c v d given t taken) told.types.work refl refl)
+created_by c v d given calm t S.Done taken (inr (inr (inr (inr (inr told))))) = absurd (other_sort _ _ _ (work_makes c v d given t taken) told.proof.work refl refl)
 created_by c v d given calm t S.Done taken (inr (inr (inr (inl shows)))) =
     absurd (let has = shows.1.has in no_root (work_of c.job t) has.opened.rows has.opened.type has.opened.root given.typed.rows given.typed.type given.bytes (work_makes c v d given t taken) has.opened.work)
 created_by c v d given calm t S.Refused taken (inl all) = absurd (no_answers (work_of c.job t) given.typed.rows given.typed.type given.bytes all.script.rows all.script.type all.script.start all.script.bytes (work_makes c v d given t taken) all.script.work)
-created_by c v d given calm t S.Refused taken (inr (inr told)) = absurd (other_sort _ _ _ (work_makes c v d given t taken) told.1.types.work refl refl)
+created_by c v d given calm t S.Refused taken (inr (inr (inl told))) = absurd (other_sort _ _ _ (work_makes c v d given t taken) told.1.types.work refl refl)
+created_by c v d given calm t S.Refused taken (inr (inr (inr told))) = absurd (other_sort _ _ _ (work_makes c v d given t taken) told.proof.work refl refl)
 created_by c v d given calm t S.Refused taken (inr (inl shows)) =
     absurd (let has = shows.has in no_root (work_of c.job t) has.opened.rows has.opened.type has.opened.root given.typed.rows given.typed.type given.bytes (work_makes c v d given t taken) has.opened.work)
 created_by c v d given calm t S.Memory taken says = inl refl
@@ -163,4 +167,5 @@ created_by c v d given calm t S.Input taken says = absurd (let e = no_fault c v 
 created_by c v d given calm t S.StoreFault taken (inl tells) = absurd (let e = no_fault c v d given calm t F.Store taken tells.due in cc)
 created_by c v d given calm t S.StoreFault taken (inr tells) = absurd (let e = no_fault c v d given calm t (F.Clash tells.0) taken tells.1.due in cc)
 created_by c v d given calm t S.Root taken says = absurd (let e = no_fault c v d given calm t (F.Root says.0 says.1) taken says.2.due in cc)
-created_by c v d given calm t S.Value taken says = absurd (let e = no_fault c v d given calm t (F.Value says.0) taken says.1.due in cc)
+created_by c v d given calm t S.Value taken (inl says) = absurd (let e = no_fault c v d given calm t (F.Value says.0) taken says.1.due in cc)
+created_by c v d given calm t S.Value taken (inr tells) = absurd (let e = no_fault c v d given calm t F.Proof taken tells.due in cc)

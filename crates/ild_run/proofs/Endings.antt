@@ -49,7 +49,8 @@ says_told c t (F.Input role trouble) tells = (role, trouble, tells)
 says_told c t F.Store tells = inl tells
 says_told c t (F.Clash id) tells = inr (id, tells)
 says_told c t F.Memory tells = inl tells
-says_told c t (F.Value r) tells = (r, tells)
+says_told c t (F.Value r) tells = inl (r, tells)
+says_told c t F.Proof tells = inr tells
 says_told c t (F.Root id why) tells = (id, why, tells)
 
 -- a fault whose line was cut off
@@ -103,6 +104,7 @@ due_inputs c job t (F.Schema f) named fault = is_work c job t _ named fault
 due_inputs c job t F.Memory named fault = tt
 due_inputs c job t F.Words named fault = is_work c job t _ named fault
 due_inputs c job t (F.Value r) named fault = absurd fault
+due_inputs c job t F.Proof named fault = absurd fault
 due_inputs c job t (F.Root id why) named fault = absurd fault
 due_inputs c job t F.Store named fault = absurd fault
 due_inputs c job t (F.Clash id) named fault = absurd fault
@@ -113,6 +115,7 @@ leaves_inputs c job t (F.Schema f) fault same = same
 leaves_inputs c job t F.Memory fault same = inl same
 leaves_inputs c job t F.Words fault same = same
 leaves_inputs c job t (F.Value r) fault same = absurd fault
+leaves_inputs c job t F.Proof fault same = absurd fault
 leaves_inputs c job t (F.Root id why) fault same = absurd fault
 leaves_inputs c job t F.Store fault same = absurd fault
 leaves_inputs c job t (F.Clash id) fault same = absurd fault

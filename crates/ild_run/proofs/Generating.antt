@@ -44,6 +44,7 @@ complete_none c status none = record {
   creates = λ v d given calm. absurd (never c.job _ none given.job);
   shows = λ v given calm. absurd (never c.job _ none given.job);
   compares = λ given calm. absurd (never c.job _ none given.job);
+  verifies = λ given calm. absurd (never c.job _ none given.job);
 }
 
 -- ---- a sink that doesn't fail

@@ -15,7 +15,7 @@ use Rattle.ild_run.specs.Cut.{ToldAs}
 use Rattle.ild_run.specs.Ended.{Call, MatchesTypes, MatchesSome, Says, Ended}
 use Rattle.ild_run.specs.inside.Matched.{MatchedTold, MatchedAs}
 use Rattle.ild_run.specs.Words.{Job}
-use Rattle.ild_run.specs.Work.{Work, Taking, ends, lists, matches, answers, makes, opens, work_of, job_work, IsTaking}
+use Rattle.ild_run.specs.Work.{Work, Taking, ends, lists, matches, answers, makes, opens, weighs, work_of, job_work, IsTaking}
 use Rattle.ild_run.specs.declared.fault.Fault.TheVariants as F
 use Rattle.ild_run.specs.declared.status.Status.{Status}
 use Rattle.ild_run.proofs.Endings.{are_taken, is_work, says_by}
@@ -29,6 +29,7 @@ sort_of (matches rows others m n) = 2
 sort_of (answers rows n start b) = 3
 sort_of (makes rows n b) = 4
 sort_of (opens rows n id) = 5
+sort_of (weighs rows n id path b) = 6
 
 -- a work, or want of memory in its place, is none of another sort
 pub other_sort : (w a b : Work) → (w ≡ a) ⊎ (w ≡ ends F.Memory) → w ≡ b → nat_eq (sort_of a) (sort_of b) ≡ false → nat_eq 0 (sort_of b) ≡ false → ⊥
@@ -53,13 +54,13 @@ module _ (c : Call) (t : Taking) (rows others : List Row) (m n : TypeNo) (work :
   }
 
   says_matched : (result : Result Bool CompareFault) (behind : Output) (status : Status) → ComparedAnswer rows others m n c.before.output result behind → MatchedTold result behind status c.after.output → Says c t status
-  says_matched (Ok true) behind status answer told = subst (λ (s : Status). Says c t s) (sym told.0) (inr (inr (inr (inr (told_of None behind told.1 answer)))))
-  says_matched (Ok false) behind status answer told = subst (λ (s : Status). Says c t s) (sym told.0) (inr (inr (answer.0, told_of (Some answer.0) behind told.1 answer.1)))
+  says_matched (Ok true) behind status answer told = subst (λ (s : Status). Says c t s) (sym told.0) (inr (inr (inr (inr (inl (told_of None behind told.1 answer))))))
+  says_matched (Ok false) behind status answer told = subst (λ (s : Status). Says c t s) (sym told.0) (inr (inr (inl (answer.0, told_of (Some answer.0) behind told.1 answer.1))))
   says_matched (Err X.Memory) behind status answer told = says_by c t F.Memory status tt (inl same) (subst (λ (o : Output). ToldAs F.Memory o status c.after.output) answer told).told
   says_matched (Err (X.Cut C.Sink)) behind status answer told =
       let rose = subst (λ (o : Output). Rose c.before.output.faults o.faults) (sym told.1) answer.0 in
-      subst (λ (s : Status). Says c t s) (sym told.0) (rose, inr (inr (inr (inr (inr (some_of behind told.1 answer.1))))))
-  says_matched (Err (X.Cut C.Memory)) behind status answer told = subst (λ (s : Status). Says c t s) (sym told.0) (inr (inr (inr (inr (inr (inr (some_of behind told.1 answer)))))))
+      subst (λ (s : Status). Says c t s) (sym told.0) (rose, inr (inr (inr (inr (inr (inl (some_of behind told.1 answer.1)))))))
+  says_matched (Err (X.Cut C.Memory)) behind status answer told = subst (λ (s : Status). Says c t s) (sym told.0) (inr (inr (inr (inr (inr (inr (inl (some_of behind told.1 answer))))))))
 
 pub ended_matched : (c : Call) (job : Job) (t : Taking) (rows others : List Row) (m n : TypeNo) (status : Status) → c.job ≡ Some job → IsTaking job c.before.supply t → job_work job t ≡ matches rows others m n
     → c.after.moment ≡ c.before.moment → MatchedAs rows others m n c.before.output status c.after.output → Ended c status

@@ -1,7 +1,8 @@
 -- Taking the inputs in order.
 use Rattle.std.specs.List.{position_from}
 use Rattle.std.specs.Prelude.{length, ◌<◌, ◌+◌, ◌∷◌, [], Bool, IfSome, option_map, cond}
-use Rattle.std.proofs.Common.{◌≡◌, ℕ, ◌≤◌, List, true, false, IfOk, Option, Some, None, Result, Ok, Err, refl, sym, ap, subst, arith}
+use Rattle.std.proofs.Common.{◌≡◌, ℕ, ◌≤◌, List, true, false, IfOk, Option, Some, None, Result, Ok, Err, refl, sym, ap, ◌∙◌, subst, arith}
+use Rattle.std.proofs.lemmas.Bool.{false≢true}
 use Rattle.ild_compile.specs.Compile.{Verdict, table, faulty, Compiles}
 use Rattle.ild_edges.specs.Inputs.{Supply, After, MayBe, taken_of, file_at}
 use Rattle.ild_edges.proofs.After.{After-trans}
@@ -15,7 +16,7 @@ use Rattle.ild_run.specs.declared.fault.Fault.TheVariants as F
 use Rattle.ild_run.specs.declared.fault.Role.{Role}
 use Rattle.ild_run.specs.declared.fault.Trouble.TheVariants as T
 use Rattle.ild_run_open.specs.declared.start.Start.{Start}
-use Rattle.ild_run.specs.Words.{Job, checks, compares, runs, creates, shows, name_of}
+use Rattle.ild_run.specs.Words.{Job, checks, compares, runs, creates, shows, verifies, name_of}
 use Rattle.ild_run.specs.Work.{Taking, in_roles, run_work, type_work, root_work, IsVerdict, IsUnder, IsTaking, AreTaken}
 use Rattle.ild_run.specs.declared.open.Task.{Task}
 use Rattle.ild_run.specs.declared.open.Task.TheVariants as P
@@ -37,6 +38,7 @@ other_name (compares schema next ty) = Some next
 other_name (runs schema ty start script) = Some script
 other_name (creates schema ty value) = Some value
 other_name (shows schema ty id) = None
+other_name (verifies schema ty id path proof) = Some proof
 
 -- it is the script's or the value's
 other_role_is : (job : Job) (m : Supply) (other : Taken) → IsUnder m other (other_name job) → IsUnder m other (name_of Role.Script job) × IsUnder m other (name_of Role.Value job)
@@ -45,6 +47,7 @@ other_role_is (compares schema next ty) m other is = (tt, tt)
 other_role_is (runs schema ty start script) m other is = (is, tt)
 other_role_is (creates schema ty value) m other is = (tt, is)
 other_role_is (shows schema ty id) m other is = (tt, tt)
+other_role_is (verifies schema ty id path proof) m other is = (tt, tt)
 
 -- or the later schema's
 next_role_is : (job : Job) (m : Supply) (other : Taken) → IsUnder m other (other_name job) → IsUnder m other (name_of Role.Next job)
@@ -53,12 +56,23 @@ next_role_is (compares schema next ty) m other is = is
 next_role_is (runs schema ty start script) m other is = tt
 next_role_is (creates schema ty value) m other is = tt
 next_role_is (shows schema ty id) m other is = tt
+next_role_is (verifies schema ty id path proof) m other is = tt
+
+-- or the proof's
+proof_role_is : (job : Job) (m : Supply) (other : Taken) → IsUnder m other (other_name job) → IsUnder m other (name_of Role.Proof job)
+proof_role_is (checks schema) m other is = tt
+proof_role_is (compares schema next ty) m other is = tt
+proof_role_is (runs schema ty start script) m other is = tt
+proof_role_is (creates schema ty value) m other is = tt
+proof_role_is (shows schema ty id) m other is = tt
+proof_role_is (verifies schema ty id path proof) m other is = is
 
 pub all_roles : (job : Job) (m : Supply) (schema other : Taken) → IsUnder m schema (name_of Role.Schema job) → IsUnder m other (other_name job) → (role : Role) → IsUnder m (in_roles schema other role) (name_of role job)
 all_roles job m schema other one two Role.Schema = one
 all_roles job m schema other one two Role.Next = next_role_is job m other two
 all_roles job m schema other one two Role.Script = (other_role_is job m other two).0
 all_roles job m schema other one two Role.Value = (other_role_is job m other two).1
+all_roles job m schema other one two Role.Proof = proof_role_is job m other two
 
 pub no_verdict : (t : Taken) → IsVerdict t None
 no_verdict Taken.Absent = tt
@@ -107,6 +121,17 @@ value_role e = cc
 value_script : Role.Value ≡ Role.Script → ⊥
 value_script e = cc
 
+-- a proof's input is none of another role
+abbrev is_proof : Role → Bool
+is_proof Role.Schema = false
+is_proof Role.Next = false
+is_proof Role.Script = false
+is_proof Role.Value = false
+is_proof Role.Proof = true
+
+pub proof_role : (role : Role) → Role.Proof ≡ role → is_proof role ≡ false → ⊥
+proof_role role e other = false≢true (sym other ∙ sym (ap is_proof e))
+
 under : (m : Supply) (t : Taken) (name : List ℕ) (found : Option (List ℕ)) → found ≡ Some name → MayBe m.files name t → IsUnder m t found
 under m t name found named is = subst (λ (x : Option (List ℕ)). IsUnder m t x) (sym named) is
 
@@ -125,6 +150,9 @@ opens_schema m n job name (F.Input Role.Script T.Failed) named answer after = ab
 opens_schema m n job name (F.Input Role.Value T.Absent) named answer after = absurd (value_role answer.0)
 opens_schema m n job name (F.Input Role.Value T.Long) named answer after = absurd (value_role answer.0)
 opens_schema m n job name (F.Input Role.Value T.Failed) named answer after = absurd (value_role answer.0)
+opens_schema m n job name (F.Input Role.Proof T.Absent) named answer after = absurd (proof_role Role.Schema answer.0 refl)
+opens_schema m n job name (F.Input Role.Proof T.Long) named answer after = absurd (proof_role Role.Schema answer.0 refl)
+opens_schema m n job name (F.Input Role.Proof T.Failed) named answer after = absurd (proof_role Role.Schema answer.0 refl)
 opens_schema m n job name F.Memory named answer after =
     let some = some_under m (name_of Role.Schema job) in opens_before m n job some.0 None _ some.1 (no_verdict some.0) (λ script. tt) tt after
 opens_schema m n job name F.Words named answer after = absurd answer
@@ -132,6 +160,7 @@ opens_schema m n job name (F.Schema f) named answer after = absurd answer
 opens_schema m n job name F.Store named answer after = absurd answer
 opens_schema m n job name (F.Clash id) named answer after = absurd answer
 opens_schema m n job name (F.Value r) named answer after = absurd answer
+opens_schema m n job name F.Proof named answer after = absurd answer
 opens_schema m n job name (F.Root id why) named answer after = absurd answer
 
 -- a call that ends at the schema's compilation
@@ -143,6 +172,7 @@ opens_faulty m n job name b F.Words named is answer after = absurd answer
 opens_faulty m n job name b F.Store named is answer after = absurd answer
 opens_faulty m n job name b (F.Clash id) named is answer after = absurd answer
 opens_faulty m n job name b (F.Value r) named is answer after = absurd answer
+opens_faulty m n job name b F.Proof named is answer after = absurd answer
 opens_faulty m n job name b (F.Root id why) named is answer after = absurd answer
 
 -- a call whose schema is checked
@@ -152,7 +182,7 @@ opens_checked m n name b rows is compiles after = opens_before m n (checks name)
 -- ---- a value that is to be created or shown
 
 -- a call that ends with its schema
-opens_with : (m n : Supply) (job : Job) (name b : List ℕ) (rows : List Row) (result : Result Task Fault) → name_of Role.Schema job ≡ Some name → MayBe m.files name (Taken.Bytes b) → Compiles b (table rows)
+pub opens_with : (m n : Supply) (job : Job) (name b : List ℕ) (rows : List Row) (result : Result Task Fault) → name_of Role.Schema job ≡ Some name → MayBe m.files name (Taken.Bytes b) → Compiles b (table rows)
     → ((t : Taken) → OpensAnswer m job (record { input = in_roles (Taken.Bytes b) t; verdict = Some (table rows); next = None }) result n) → IfOk result IsReady → After m n → TakesInputs m job result n
 opens_with m n job name b rows result named is compiles answer ready after =
     opens_before m n job (Taken.Bytes b) (Some (table rows)) result (under m (Taken.Bytes b) name (name_of Role.Schema job) named is) compiles answer ready after
@@ -198,12 +228,16 @@ value_answer m k n name ty value b rows t (Err (F.Input Role.Next T.Failed)) nam
 value_answer m k n name ty value b rows t (Err (F.Input Role.Script T.Absent)) named same lacks faults answer = absurd (value_script (sym answer.0))
 value_answer m k n name ty value b rows t (Err (F.Input Role.Script T.Long)) named same lacks faults answer = absurd (value_script (sym answer.0))
 value_answer m k n name ty value b rows t (Err (F.Input Role.Script T.Failed)) named same lacks faults answer = absurd (value_script (sym answer.0))
+value_answer m k n name ty value b rows t (Err (F.Input Role.Proof T.Absent)) named same lacks faults answer = absurd (proof_role Role.Value answer.0 refl)
+value_answer m k n name ty value b rows t (Err (F.Input Role.Proof T.Long)) named same lacks faults answer = absurd (proof_role Role.Value answer.0 refl)
+value_answer m k n name ty value b rows t (Err (F.Input Role.Proof T.Failed)) named same lacks faults answer = absurd (proof_role Role.Value answer.0 refl)
 value_answer m k n name ty value b rows t (Err F.Memory) named same lacks faults answer = let some = some_taken m.files value in (some.0, some.1, tt)
 value_answer m k n name ty value b rows t (Err F.Words) named same lacks faults answer = absurd answer
 value_answer m k n name ty value b rows t (Err (F.Schema f)) named same lacks faults answer = absurd answer
 value_answer m k n name ty value b rows t (Err F.Store) named same lacks faults answer = absurd answer
 value_answer m k n name ty value b rows t (Err (F.Clash id)) named same lacks faults answer = absurd answer
 value_answer m k n name ty value b rows t (Err (F.Value r)) named same lacks faults answer = absurd answer
+value_answer m k n name ty value b rows t (Err F.Proof) named same lacks faults answer = absurd answer
 value_answer m k n name ty value b rows t (Err (F.Root id why)) named same lacks faults answer = absurd answer
 
 value_ready : (rows : List Row) (t : TypeNo) (result : Result (List ℕ) Fault) → t.0 < length rows → IfOk (value_task rows t result) IsReady
@@ -249,12 +283,16 @@ script_answer m k n name ty script b rows t start (Err (F.Input Role.Next T.Fail
 script_answer m k n name ty script b rows t start (Err (F.Input Role.Value T.Absent)) named same lacks faults answer = absurd (value_script answer.0)
 script_answer m k n name ty script b rows t start (Err (F.Input Role.Value T.Long)) named same lacks faults answer = absurd (value_script answer.0)
 script_answer m k n name ty script b rows t start (Err (F.Input Role.Value T.Failed)) named same lacks faults answer = absurd (value_script answer.0)
+script_answer m k n name ty script b rows t start (Err (F.Input Role.Proof T.Absent)) named same lacks faults answer = absurd (proof_role Role.Script answer.0 refl)
+script_answer m k n name ty script b rows t start (Err (F.Input Role.Proof T.Long)) named same lacks faults answer = absurd (proof_role Role.Script answer.0 refl)
+script_answer m k n name ty script b rows t start (Err (F.Input Role.Proof T.Failed)) named same lacks faults answer = absurd (proof_role Role.Script answer.0 refl)
 script_answer m k n name ty script b rows t start (Err F.Memory) named same lacks faults answer = let some = some_taken m.files script in (some.0, some.1, tt)
 script_answer m k n name ty script b rows t start (Err F.Words) named same lacks faults answer = absurd answer
 script_answer m k n name ty script b rows t start (Err (F.Schema f)) named same lacks faults answer = absurd answer
 script_answer m k n name ty script b rows t start (Err F.Store) named same lacks faults answer = absurd answer
 script_answer m k n name ty script b rows t start (Err (F.Clash id)) named same lacks faults answer = absurd answer
 script_answer m k n name ty script b rows t start (Err (F.Value r)) named same lacks faults answer = absurd answer
+script_answer m k n name ty script b rows t start (Err F.Proof) named same lacks faults answer = absurd answer
 script_answer m k n name ty script b rows t start (Err (F.Root id why)) named same lacks faults answer = absurd answer
 
 script_ready : (rows : List Row) (t : TypeNo) (start : Start) (result : Result (List ℕ) Fault) → t.0 < length rows → IfOk (script_task rows t start result) IsReady

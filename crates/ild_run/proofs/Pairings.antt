@@ -70,11 +70,15 @@ module _ (m : Supply) (name next ty b : List ℕ) (rows : List Row) (is : MayBe 
   untaken k n (F.Input Role.Value T.Absent) before after answer = absurd (let e = answer.0 in cc)
   untaken k n (F.Input Role.Value T.Long) before after answer = absurd (let e = answer.0 in cc)
   untaken k n (F.Input Role.Value T.Failed) before after answer = absurd (let e = answer.0 in cc)
+  untaken k n (F.Input Role.Proof T.Absent) before after answer = absurd (let e = answer.0 in cc)
+  untaken k n (F.Input Role.Proof T.Long) before after answer = absurd (let e = answer.0 in cc)
+  untaken k n (F.Input Role.Proof T.Failed) before after answer = absurd (let e = answer.0 in cc)
   untaken k n F.Words before after answer = absurd answer
   untaken k n (F.Schema f) before after answer = absurd answer
   untaken k n F.Store before after answer = absurd answer
   untaken k n (F.Clash id) before after answer = absurd answer
   untaken k n (F.Value r) before after answer = absurd answer
+  untaken k n F.Proof before after answer = absurd answer
   untaken k n (F.Root id why) before after answer = absurd answer
 
   uncompiled : (n : Supply) (bytes : List ℕ) (f : Fault) → MayBe m.files next (Taken.Bytes bytes) → After m n → CompileAnswer bytes (Err f) → TakesInputs m (compares name next ty) (Err f) n
@@ -85,6 +89,7 @@ module _ (m : Supply) (name next ty b : List ℕ) (rows : List Row) (is : MayBe 
   uncompiled n bytes F.Store there after answer = absurd answer
   uncompiled n bytes (F.Clash id) there after answer = absurd answer
   uncompiled n bytes (F.Value r) there after answer = absurd answer
+  uncompiled n bytes F.Proof there after answer = absurd answer
   uncompiled n bytes (F.Root id why) there after answer = absurd answer
 
   typed : (n : Supply) (bytes : List ℕ) (others : List Row) (result : Result Task Fault) → MayBe m.files next (Taken.Bytes bytes) → Compiles bytes (table others) → After m n → TypesAnswer rows others ty result
@@ -97,6 +102,7 @@ module _ (m : Supply) (name next ty b : List ℕ) (rows : List Row) (is : MayBe 
   typed n bytes others (Err (F.Clash id)) there compiled after answer = absurd answer
   typed n bytes others (Err F.Memory) there compiled after answer = absurd answer
   typed n bytes others (Err (F.Value r)) there compiled after answer = absurd answer
+  typed n bytes others (Err F.Proof) there compiled after answer = absurd answer
   typed n bytes others (Err (F.Root id why)) there compiled after answer = absurd answer
 
 -- a call that ends at the later schema's input

@@ -1,5 +1,5 @@
 -- A call that nothing outside stands in the way of does all that its words ask for, unless memory is wanting.
-use Rattle.std.specs.Prelude.{◌≡◌, ◌⊎◌, ℕ, List, Option, Some, None, Contains, if◌then◌else◌}
+use Rattle.std.specs.Prelude.{◌≡◌, ◌⊎◌, ℕ, List, Bool, Option, Some, None, Contains, if◌then◌else◌}
 use Rattle.std.specs.List.{list_any}
 use Rattle.ild_compile.specs.Compile.{Compiles, table}
 use Rattle.ild_run_create.specs.Makes.{Makes}
@@ -32,10 +32,14 @@ use Rattle.ild_script_session.specs.Plain.{PlainRun, AreApart, AreAllApart}
 use Rattle.ild_typed.specs.Stands.{bare, root_id, blocks_of as typed_blocks, Stands}
 use Rattle.ild_compat.specs.declared.rule.Differ.{Differ}
 use Rattle.ild_run_compare.specs.Compared.{IsTold}
-use Rattle.ild_run.specs.Words.{checks, compares, runs, creates, shows}
+use Rattle.ild_inclusion.specs.declared.answer.Answer.{Answer}
+use Rattle.ild_run_verify.specs.Verified.{ProofSays, SaysNothing, WritesLine}
+use Rattle.ild_run.specs.Fault.{fault_text}
+use Rattle.ild_run.specs.Words.{checks, compares, runs, creates, shows, verifies}
 use Rattle.ild_run.specs.Listed.{Lists}
 use Rattle.ild_run.specs.Shown.{hash, reserved}
 use Rattle.ild_run.specs.Ended.{Call}
+use Rattle.ild_run.specs.declared.fault.Fault.TheVariants as F
 use Rattle.ild_run.specs.declared.status.Status.{Status}
 use Rattle.ild_run.specs.declared.status.Status.TheVariants as S
 
@@ -172,8 +176,34 @@ ComparedBy c rows others m n status (Some d) = (status ≡ S.Refused) × IsTold 
 abbrev pub ComparesPlainly : Call → List Row → List Row → TypeNo → TypeNo → Status → Type 0
 ComparesPlainly c rows others m n status = (found : Option Differ) × ComparedBy c rows others m n status found
 
+-- the words ask what a proof says; the inputs tell and hold a schema that is accepted and has the type, and what is to be the proof
+pub record IsGivenProof (c : Call) : Type 0 where
+  pub schema_name : List ℕ
+  pub type_name : List ℕ
+  pub root : List ℕ
+  pub path : List (List ℕ)
+  pub proof_name : List ℕ
+  pub job : c.job ≡ Some (verifies schema_name type_name root path proof_name)
+  pub files : List (List ℕ × List ℕ)
+  pub told : c.before.supply.files ≡ Some files
+  pub typed : HasType files schema_name type_name
+  pub bytes : List ℕ
+  pub proof_held : taken_of (file_at files proof_name) ≡ Taken.Bytes bytes
+
+-- the line of an answer was written
+pub record TellsPlainly (c : Call) (a : Answer) (status : Status) : Type 0 where
+  pub reserved : Bool
+  pub writes : WritesLine a reserved c.before.output c.after.output
+  pub status_is : status ≡ (if reserved then S.Refused else S.Done)
+
+-- what the proof says was told; where it says nothing, or is none, it was refused
+pub record VerifiesPlainly (c : Call) (given : IsGivenProof c) (status : Status) : Type 0 where
+  pub said : (a : Answer) → ProofSays hash given.typed.rows given.typed.type given.root given.path given.bytes a → TellsPlainly c a status
+  pub refused : SaysNothing hash given.typed.rows given.typed.type given.root given.path given.bytes
+      → (status ≡ S.Value) × Appends c.before.output.written c.after.output.written (fault_text F.Proof)
+
 -- a script is answered plainly, the names of an accepted schema are listed, a value that a store can hold is created, one that stands
--- under a root is shown, and the types of two accepted schemas are compared
+-- under a root is shown, the types of two accepted schemas are compared, and it is told what a proof says
 pub record IsComplete (c : Call) (status : Status) : Type 0 where
   pub runs : (tests : Tests) (v : Typed) (script : List ℕ) (given : IsGiven c tests v script)
       → IsUndisturbed c given.typed.rows given.typed.type tests given.start v script → (status ≡ S.Memory) ⊎ AnswersPlainly c given.typed.rows given.typed.type tests v script status
@@ -181,6 +211,7 @@ pub record IsComplete (c : Call) (status : Status) : Type 0 where
   pub creates : (v : Typed) (d : Data) (given : IsGivenValue c v d) → LetsCreate c given.typed.rows given.typed.type v d → (status ≡ S.Memory) ⊎ CreatesPlainly c given.typed.rows given.typed.type v d status
   pub shows : (v : Typed) (given : IsGivenRoot c v) → IsFaultless c → (status ≡ S.Memory) ⊎ ShowsPlainly c given.typed.rows given.typed.type v status
   pub compares : (given : IsGivenPair c) → IsCalm c → (status ≡ S.Memory) ⊎ ComparesPlainly c given.typed.rows given.next.rows given.typed.type given.next.type status
+  pub verifies : (given : IsGivenProof c) → IsCalm c → (status ≡ S.Memory) ⊎ VerifiesPlainly c given status
 
 -- The premise on collisions can be met: where all that a store holds, and all that may come, are among blocks of which no two have one id.
 abbrev pub CanBeApart : Type 0

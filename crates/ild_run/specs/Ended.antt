@@ -28,7 +28,8 @@ use Rattle.ild_run_show.specs.Shows.{GetsItsBlocks, HasShown, NotOpened}
 use Rattle.ild_run.specs.Shown.{hash, reserved}
 use Rattle.ild_compat.specs.declared.rule.Differ.{Differ}
 use Rattle.ild_run_compare.specs.Compared.{IsTold, IsCutOff}
-use Rattle.ild_run.specs.Work.{Taking, ends, lists, matches, answers, makes, opens, work_of, AreTaken, Reaches}
+use Rattle.ild_run_verify.specs.Verified.{SaysNothing, IsTold as IsSaid, IsCutOff as IsSaidFront}
+use Rattle.ild_run.specs.Work.{Taking, ends, lists, matches, answers, makes, opens, weighs, work_of, AreTaken, Reaches}
 use Rattle.ild_run.specs.Fault.{fault_text}
 use Rattle.ild_run.specs.Listed.{Lists, ListsFront}
 use Rattle.ild_run.specs.declared.fault.Fault.{Fault}
@@ -89,6 +90,16 @@ pub record ComparesTypes (c : Call) (t : Taking) : Type 0 where
   pub work : work_of c.job t ≡ matches rows others type later
   pub same : c.after.moment ≡ c.before.moment
 
+-- a proof that is weighed, with the store left as it was
+pub record WeighsProof (c : Call) (t : Taking) : Type 0 where
+  pub rows : List Row
+  pub type : TypeNo
+  pub root : List ℕ
+  pub path : List (List ℕ)
+  pub bytes : List ℕ
+  pub work : work_of c.job t ≡ weighs rows type root path bytes
+  pub same : c.after.moment ≡ c.before.moment
+
 -- ---- what became of it
 
 -- a script was to be run, and nothing was asked of the store but what opening its document asks
@@ -130,6 +141,12 @@ pub record LacksRoot (c : Call) (t : Taking) (id : List ℕ) (why : BlockWhy) : 
   pub table : IsTable opened.rows
   pub refused : NotOpened hash opened.rows opened.type opened.root c.before.moment id why c.after.moment
 
+-- what was to be a proof isn't one, or something is wrong with a block of it
+pub record RefusesProof (c : Call) (t : Taking) : Type 0 where
+  pub proof : WeighsProof c t
+  pub table : IsTable proof.rows
+  pub nothing : SaysNothing hash proof.rows proof.type proof.root proof.path proof.bytes
+
 -- the cause of a fault
 abbrev pub IsDue : Call → Taking → Fault → Type 0
 IsDue c t (F.Input role T.Failed) = Rose c.before.supply.faults c.after.supply.faults × Reaches role c.job t
@@ -137,6 +154,7 @@ IsDue c t (F.Input role trouble) = (work_of c.job t ≡ ends (F.Input role troub
 IsDue c t F.Store = Rose c.before.moment.faults c.after.moment.faults × (AsksScript c t ⊎ (TriesValue c t ⊎ ReadsRoot c t))
 IsDue c t (F.Clash id) = StopsScript c t (P.Clash id) ⊎ ClashesValue c t id.0
 IsDue c t (F.Value r) = ((r ≡ N.Mismatch) × StopsScript c t P.Mismatch) ⊎ RefusesValue c t r
+IsDue c t F.Proof = RefusesProof c t
 IsDue c t (F.Root id why) = StopsScript c t (P.Block id why) ⊎ LacksRoot c t id.0 why
 IsDue c t F.Memory = Unit {0}
 IsDue c t f = work_of c.job t ≡ ends f
@@ -239,14 +257,26 @@ pub record MatchesSome (c : Call) (t : Taking) : Type 0 where
   pub types : ComparesTypes c t
   pub told : IsCutOff types.rows types.others types.type types.later c.before.output c.after.output
 
+-- what the proof says of the path was told, and the store left
+pub record VerifiesPath (c : Call) (t : Taking) (reserved : Bool) : Type 0 where
+  pub proof : WeighsProof c t
+  pub table : IsTable proof.rows
+  pub told : IsSaid hash proof.rows proof.type proof.root proof.path proof.bytes reserved c.before.output c.after.output
+
+-- a front of that line was written
+pub record VerifiesSome (c : Call) (t : Taking) : Type 0 where
+  pub proof : WeighsProof c t
+  pub told : IsSaidFront hash proof.rows proof.type proof.root proof.path proof.bytes c.before.output c.after.output
+
 -- the text that was due was cut off
 abbrev pub IsCut : Call → Taking → Type 0
-IsCut c t = TellsFront c t ⊎ (AnswersSome c t ⊎ (ListsSome c t ⊎ (CreatesSome c t ⊎ (ShowsSome c t ⊎ MatchesSome c t))))
+IsCut c t = TellsFront c t ⊎ (AnswersSome c t ⊎ (ListsSome c t ⊎ (CreatesSome c t ⊎ (ShowsSome c t ⊎ (MatchesSome c t ⊎ VerifiesSome c t)))))
 
 -- what a status says
 abbrev pub Says : Call → Taking → Status → Type 0
-Says c t S.Done = AnswersAll c t false ⊎ (ListsNames c t ⊎ (CreatesValue c t ⊎ (((json : List ℕ) × ShowsRoot c t (Some json)) ⊎ MatchesTypes c t None)))
-Says c t S.Refused = AnswersAll c t true ⊎ (ShowsRoot c t None ⊎ ((d : Differ) × MatchesTypes c t (Some d)))
+Says c t S.Done =
+    AnswersAll c t false ⊎ (ListsNames c t ⊎ (CreatesValue c t ⊎ (((json : List ℕ) × ShowsRoot c t (Some json)) ⊎ (MatchesTypes c t None ⊎ VerifiesPath c t false))))
+Says c t S.Refused = AnswersAll c t true ⊎ (ShowsRoot c t None ⊎ (((d : Differ) × MatchesTypes c t (Some d)) ⊎ VerifiesPath c t true))
 Says c t S.Words = Tells c t F.Words
 Says c t S.Schema = (f : SchemaFault) × Tells c t (F.Schema f)
 Says c t S.Root = (id : BlockId) × (why : BlockWhy) × Tells c t (F.Root id why)
@@ -254,7 +284,7 @@ Says c t S.Input = (role : Role) × (trouble : Trouble) × Tells c t (F.Input ro
 Says c t S.StoreFault = Tells c t F.Store ⊎ ((id : BlockId) × Tells c t (F.Clash id))
 Says c t S.SinkFault = Rose c.before.output.faults c.after.output.faults × IsCut c t
 Says c t S.Memory = Tells c t F.Memory ⊎ IsCut c t
-Says c t S.Value = (r : Refusal) × Tells c t (F.Value r)
+Says c t S.Value = ((r : Refusal) × Tells c t (F.Value r)) ⊎ Tells c t F.Proof
 
 -- a call ended with this status: what is taken of its inputs and what the schema is compiled to, and what the status says of them
 pub record Ended (c : Call) (status : Status) : Type 0 where

@@ -27,6 +27,7 @@ status_of F.Store = S.StoreFault
 status_of (F.Clash id) = S.StoreFault
 status_of F.Memory = S.Memory
 status_of (F.Value r) = S.Value
+status_of F.Proof = S.Value
 status_of (F.Root id why) = S.Root
 
 abbrev pub input_text : Role → Trouble → List ℕ
@@ -42,6 +43,9 @@ input_text Role.Script T.Long = codes "fault 5 input script long\n"
 input_text Role.Value T.Failed = codes "fault 5 input value failed\n"
 input_text Role.Value T.Absent = codes "fault 5 input value absent\n"
 input_text Role.Value T.Long = codes "fault 5 input value long\n"
+input_text Role.Proof T.Failed = codes "fault 5 input proof failed\n"
+input_text Role.Proof T.Absent = codes "fault 5 input proof absent\n"
+input_text Role.Proof T.Long = codes "fault 5 input proof long\n"
 
 -- the number and the name of the reply to an edit
 abbrev pub value_text : Refusal → List ℕ
@@ -72,6 +76,7 @@ fault_text F.Store = codes "fault 6 store\n"
 fault_text (F.Clash id) = codes "fault 6 clash " ++ (cid_text_of (cid_of id.0) ++ 10 ∷ [])
 fault_text F.Memory = codes "fault 8 memory\n"
 fault_text (F.Value r) = value_text r
+fault_text F.Proof = codes "fault 9 value 16 proof\n"
 fault_text (F.Root id why) = block_text why ++ (cid_text_of (cid_of id.0) ++ 10 ∷ [])
 
 abbrev pub cut_status : Cut → Status

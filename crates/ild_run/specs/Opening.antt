@@ -16,9 +16,10 @@ use Rattle.ild_run.specs.declared.open.Job.TheVariants as J
 use Rattle.ild_run.specs.declared.open.Task.{Task}
 use Rattle.ild_run.specs.declared.open.Task.TheVariants as P
 use Rattle.ild_run_open.specs.declared.start.Start.{Start}
-use Rattle.ild_run.specs.Words.{Job, checks, compares, runs, creates, shows, start_of_text}
+use Rattle.ild_run.specs.Words.{Job, checks, compares, runs, creates, shows, verifies, start_of_text}
 use Rattle.ild_data_root.specs.Root.{root_of_text}
-use Rattle.ild_run.specs.Work.{Work, Taking, ends, lists, matches, answers, makes, opens, types_work, job_work, IsTaking, TakesForRole}
+use Rattle.ild_script.specs.Path.{path_of}
+use Rattle.ild_run.specs.Work.{Work, Taking, ends, lists, matches, answers, makes, opens, weighs, types_work, job_work, IsTaking, TakesForRole}
 
 -- the job that the program holds
 abbrev pub job_seen : Held → Job
@@ -27,8 +28,9 @@ job_seen (J.Compat schema next ty) = compares schema.now next.now ty.now
 job_seen (J.Run schema ty start script) = runs schema.now ty.now start script.now
 job_seen (J.New schema ty value) = creates schema.now ty.now value.now
 job_seen (J.Show schema ty root) = shows schema.now ty.now root.0
+job_seen (J.Verify schema ty root path proof) = verifies schema.now ty.now root.0 path proof.now
 
--- what words ask for; memory may be wanting to read a root
+-- what words ask for; memory may be wanting to read a root or a path
 abbrev pub AsksFor : Option Job → Result (Option Held) Fault → Type 0
 AsksFor job (Ok found) = option_map job_seen found ≡ job
 AsksFor job (Err f) = f ≡ F.Memory
@@ -36,6 +38,10 @@ AsksFor job (Err f) = f ≡ F.Memory
 abbrev pub AsksRoot : List ℕ → Result (Option BlockId) Fault → Type 0
 AsksRoot text (Ok found) = option_map (λ (id : BlockId). id.0) found ≡ root_of_text text
 AsksRoot text (Err f) = f ≡ F.Memory
+
+abbrev pub AsksPath : List ℕ → Result (Option (List (List ℕ))) Fault → Type 0
+AsksPath text (Ok found) = found ≡ path_of text
+AsksPath text (Err f) = f ≡ F.Memory
 
 abbrev pub AsksStart : List ℕ → Result (Option Start) Fault → Type 0
 AsksStart text (Ok found) = found ≡ start_of_text text
@@ -77,6 +83,7 @@ work_seen (P.Compare rows m others n) = matches rows others m n
 work_seen (P.Answer rows n start b) = answers rows n start b
 work_seen (P.Create rows n b) = makes rows n b
 work_seen (P.Show rows n id) = opens rows n id.0
+work_seen (P.Verify rows n id path b) = weighs rows n id.0 path.now b
 
 -- a value has a type of its table
 abbrev pub IsReady : Task → Type 0
@@ -85,6 +92,7 @@ IsReady (P.Compare rows m others n) = (m.0 < length rows) × (n.0 < length other
 IsReady (P.Answer rows n start b) = n.0 < length rows
 IsReady (P.Create rows n b) = n.0 < length rows
 IsReady (P.Show rows n id) = n.0 < length rows
+IsReady (P.Verify rows n id path b) = n.0 < length rows
 
 abbrev pub OpensAnswer : Supply → Job → Taking → Result Task Fault → Supply → Type 0
 OpensAnswer m job t (Ok task) n = job_work job t ≡ work_seen task

@@ -11,10 +11,11 @@ use Rattle.ild_run.specs.declared.fault.Fault.TheVariants as F
 use Rattle.ild_run.specs.declared.fault.Role.{Role}
 use Rattle.ild_run.specs.declared.fault.Trouble.TheVariants as T
 use Rattle.ild_run_open.specs.declared.start.Start.{Start}
-use Rattle.ild_run.specs.Words.{Job, checks, compares, runs, creates, shows, name_of}
+use Rattle.ild_run.specs.Words.{Job, checks, compares, runs, creates, shows, verifies, name_of}
 
 -- the call ends with a fault, lists names, answers the lines of a script on a value of a type of a table, which starts so, creates a value
--- of such a type from bytes, or opens the one that stands under a block id; or it tells how a type of a table and one of a later table compare
+-- of such a type from bytes, or opens the one that stands under a block id; or it tells how a type of a table and one of a later table compare,
+-- or what bytes say, as a proof, of a path in the value of a type under a block id
 pub data Work : Type 0 where
   ends : Fault → Work
   lists : List (List ℕ) → Work
@@ -22,6 +23,7 @@ pub data Work : Type 0 where
   answers : List Row → TypeNo → Start → List ℕ → Work
   makes : List Row → TypeNo → List ℕ → Work
   opens : List Row → TypeNo → List ℕ → Work
+  weighs : List Row → TypeNo → List ℕ → List (List ℕ) → List ℕ → Work
 
 -- what is taken of the inputs in each role, or would be, and what the schema and a later one are compiled to, or none where memory is wanting
 -- for it
@@ -30,12 +32,13 @@ pub record Taking : Type 0 where
   pub verdict : Option Verdict
   pub next : Option Verdict
 
--- what is taken as the schema, and what as the later schema, the script or the value
+-- what is taken as the schema, and what as the later schema, the script, the value or the proof
 abbrev pub in_roles : Taken → Taken → Role → Taken
 in_roles schema other Role.Schema = schema
 in_roles schema other Role.Next = other
 in_roles schema other Role.Script = other
 in_roles schema other Role.Value = other
+in_roles schema other Role.Proof = other
 
 -- the script's input comes last
 abbrev pub script_work : List Row → TypeNo → Start → Taken → Work
@@ -49,6 +52,12 @@ value_work rows n Taken.Absent = ends (F.Input Role.Value T.Absent)
 value_work rows n Taken.Long = ends (F.Input Role.Value T.Long)
 value_work rows n (Taken.Bytes b) = makes rows n b
 
+-- and a proof's
+abbrev pub proof_work : List Row → TypeNo → List ℕ → List (List ℕ) → Taken → Work
+proof_work rows n id path Taken.Absent = ends (F.Input Role.Proof T.Absent)
+proof_work rows n id path Taken.Long = ends (F.Input Role.Proof T.Long)
+proof_work rows n id path (Taken.Bytes b) = weighs rows n id path b
+
 -- the type's name has to be one of the table
 abbrev pub type_work : List Row → Option ℕ → Taken → Work
 type_work rows None value = ends F.Words
@@ -61,6 +70,10 @@ run_work rows (Some n) start script = script_work rows (record { 0 = n }) start 
 abbrev pub root_work : List Row → Option ℕ → List ℕ → Work
 root_work rows None id = ends F.Words
 root_work rows (Some n) id = opens rows (record { 0 = n }) id
+
+abbrev pub verify_work : List Row → Option ℕ → List ℕ → List (List ℕ) → Taken → Work
+verify_work rows None id path proof = ends F.Words
+verify_work rows (Some n) id path proof = proof_work rows (record { 0 = n }) id path proof
 
 -- a later schema is taken and compiled once the first is; then the type's name has to be one of both tables
 abbrev pub types_work : List Row → List Row → Option ℕ → Option ℕ → Work
@@ -85,6 +98,7 @@ table_work (compares schema next ty) rows t = next_work rows ty (t.input Role.Ne
 table_work (runs schema ty start script) rows t = run_work rows (number_named ty rows) start (t.input Role.Script)
 table_work (creates schema ty value) rows t = type_work rows (number_named ty rows) (t.input Role.Value)
 table_work (shows schema ty id) rows t = root_work rows (number_named ty rows) id
+table_work (verifies schema ty id path proof) rows t = verify_work rows (number_named ty rows) id path (t.input Role.Proof)
 
 -- after the schema's input comes its compilation
 abbrev pub compiled_work : Job → Option Verdict → Taking → Work
@@ -142,7 +156,7 @@ pub record IsTableOpen (t : Taking) : Type 0 where
   pub verdict : t.verdict ≡ Some (table rows)
 
 -- a job leads up to taking an input: each to its schema, and where that is accepted, a comparison to the later schema; where the type of its value is there, a run to the script, and that of a
--- new value to the value
+-- new value to the value, and what a proof is to say to the proof
 abbrev pub TakesForRole : Role → Job → Taking → Type 0
 TakesForRole Role.Schema job t = Unit {0}
 TakesForRole Role.Next (checks schema) t = ⊥
@@ -150,16 +164,25 @@ TakesForRole Role.Next (compares schema next ty) t = IsTableOpen t
 TakesForRole Role.Next (runs schema ty start script) t = ⊥
 TakesForRole Role.Next (creates schema ty value) t = ⊥
 TakesForRole Role.Next (shows schema ty id) t = ⊥
+TakesForRole Role.Next (verifies schema ty id path proof) t = ⊥
 TakesForRole Role.Script (checks schema) t = ⊥
 TakesForRole Role.Script (compares schema next ty) t = ⊥
 TakesForRole Role.Script (runs schema ty start script) t = IsTypeOpen ty t
 TakesForRole Role.Script (creates schema ty value) t = ⊥
 TakesForRole Role.Script (shows schema ty id) t = ⊥
+TakesForRole Role.Script (verifies schema ty id path proof) t = ⊥
 TakesForRole Role.Value (checks schema) t = ⊥
 TakesForRole Role.Value (compares schema next ty) t = ⊥
 TakesForRole Role.Value (runs schema ty start script) t = ⊥
 TakesForRole Role.Value (creates schema ty value) t = IsTypeOpen ty t
 TakesForRole Role.Value (shows schema ty id) t = ⊥
+TakesForRole Role.Value (verifies schema ty id path proof) t = ⊥
+TakesForRole Role.Proof (checks schema) t = ⊥
+TakesForRole Role.Proof (compares schema next ty) t = ⊥
+TakesForRole Role.Proof (runs schema ty start script) t = ⊥
+TakesForRole Role.Proof (creates schema ty value) t = ⊥
+TakesForRole Role.Proof (shows schema ty id) t = ⊥
+TakesForRole Role.Proof (verifies schema ty id path proof) t = IsTypeOpen ty t
 
 abbrev pub Reaches : Role → Option Job → Taking → Type 0
 Reaches role None t = ⊥

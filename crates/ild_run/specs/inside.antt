@@ -1,3 +1,5 @@
 pub mod Made
 pub mod Answered
 pub mod Matched
+pub mod Weighed
+pub mod Carried

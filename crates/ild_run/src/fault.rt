@@ -23,6 +23,7 @@ pub enum Role {
     Next,
     Script,
     Value,
+    Proof,
 }
 
 /// What is wrong with an input.
@@ -43,6 +44,7 @@ pub enum Fault {
     Clash(BlockId),
     Memory,
     Value(Refusal),
+    Proof,
     Root(BlockId, BlockWhy),
 }
 
@@ -62,6 +64,9 @@ fn input_text(role: Role, trouble: Trouble) -> &'static [u8]
         (Role::Value, Trouble::Failed) => b"fault 5 input value failed\n",
         (Role::Value, Trouble::Absent) => b"fault 5 input value absent\n",
         (Role::Value, Trouble::Long) => b"fault 5 input value long\n",
+        (Role::Proof, Trouble::Failed) => b"fault 5 input proof failed\n",
+        (Role::Proof, Trouble::Absent) => b"fault 5 input proof absent\n",
+        (Role::Proof, Trouble::Long) => b"fault 5 input proof long\n",
     }
 }
 
@@ -125,7 +130,7 @@ impl Fault {
             Fault::Input(_, _) => Status::Input,
             Fault::Store | Fault::Clash(_) => Status::StoreFault,
             Fault::Memory => Status::Memory,
-            Fault::Value(_) => Status::Value,
+            Fault::Value(_) | Fault::Proof => Status::Value,
             Fault::Root(_, _) => Status::Root,
         }
     }
@@ -162,6 +167,7 @@ pub fn write_fault<W: Sink>(alloc: Global, fault: Fault, out: &mut W) -> Result<
         Fault::Clash(id) => write_cid_line(alloc, b"fault 6 clash ", id, out),
         Fault::Memory => write(out, b"fault 8 memory\n"),
         Fault::Value(refusal) => write(out, value_text(refusal)),
+        Fault::Proof => write(out, b"fault 9 value 16 proof\n"),
         Fault::Root(id, why) => write_cid_line(alloc, block_text(why), id, out),
     }
 }

@@ -1,27 +1,30 @@
 //! What comes before the work: the words, the inputs, and the schema.
 ghost use Rattle.std.specs.Prelude.{◌≡◌, ◌<◌, IfSome, Some, length, option_map};
 ghost use Rattle.ild_schema.specs.Names.{number_named};
-ghost use Rattle.ild_run.specs.Words.{job_of, name_of, pair_job, typed_job, run_job, compares, creates, runs, shows};
-ghost use Rattle.ild_run.specs.Opening.{job_seen, AsksFor, AsksRoot, AsksStart, CompileAnswer, TakesInput, TakesInputs, OpensBehind, TypesAnswer};
+ghost use Rattle.ild_run.specs.Words.{job_of, name_of, pair_job, typed_job, run_job, verify_job, compares, creates, runs, shows, verifies};
+ghost use Rattle.ild_run.specs.Opening.{job_seen, AsksFor, AsksPath, AsksRoot, AsksStart, CompileAnswer, TakesInput, TakesInputs, OpensBehind, TypesAnswer};
 
 use crate::fault::{Fault, Role, Trouble};
 use ild_compile::{CompileErr, compile};
-use ild_data::{BlockId, Octets};
+use ild_data::{BlockId, Octets, Path};
 use ild_data_root::root_of_text;
 use ild_edges::{EdgeErr, Inputs, Taken};
 use ild_run_open::Start;
 use ild_schema::{Accepted, TypeNo};
+use ild_script_path::path_of_text;
 use std::alloc::Global;
 
 /// What the words ask for, with the names of its inputs: the schema's; for a run its type, where it starts and its script; for a new
-/// value its type and its input, and to show one its type and its root. To compare types: the two schemas', and the name of the type.
-#[derive(Clone, Copy)]
+/// value its type and its input, and to show one its type and its root. To compare types: the two schemas', and the name of the type. For what a
+/// proof says: the type, the root, the path, and the input of the proof.
+#[derive(Drop)]
 pub enum Job<'w> {
     Check(&'w str),
     Compat(&'w str, &'w str, &'w str),
     Run(&'w str, &'w str, Start, &'w str),
     New(&'w str, &'w str, &'w str),
     Show(&'w str, &'w str, BlockId),
+    Verify(&'w str, &'w str, BlockId, Path, &'w str),
 }
 
 impl Job<'_> {
@@ -34,6 +37,7 @@ impl Job<'_> {
             Job::Compat(schema, _, _) => schema,
             Job::Run(schema, _, _, _) => schema,
             Job::New(schema, _, _) => schema,
+            Job::Verify(schema, _, _, _, _) => schema,
             Job::Show(schema, _, _) => schema,
         }
     }
@@ -44,6 +48,16 @@ fn asked_root(alloc: Global, text: &str) -> Result<Option<BlockId>, Fault>
     ensures { AsksRoot text.now result }
 {
     match root_of_text(alloc, text) {
+        Ok(found) => Ok(found),
+        Err(_) => Err(Fault::Memory),
+    }
+}
+
+/// The path that a text writes, if it writes one.
+fn asked_path(alloc: Global, text: &str) -> Result<Option<Path>, Fault>
+    ensures { AsksPath text.now result }
+{
+    match path_of_text(alloc, text) {
         Ok(found) => Ok(found),
         Err(_) => Err(Fault::Memory),
     }
@@ -123,6 +137,33 @@ fn pair_job<'w>(
     typed_job(alloc, verb, first, second, last)
 }
 
+/// What six words ask for: that it is told what a proof says.
+fn verify_job<'w>(
+    alloc: Global,
+    verb: &str,
+    schema: &'w str,
+    ty: &'w str,
+    root: &str,
+    path: &str,
+    proof: &'w str,
+) -> Result<Option<Job<'w>>, Fault>
+    ensures { AsksFor (verify_job verb.now schema.now ty.now root.now path.now proof.now) result }
+{
+    if verb != "verify" {
+        return Ok(None);
+    }
+    let id = match asked_root(alloc, root) {
+        Ok(Some(id)) => id,
+        Ok(None) => return Ok(None),
+        Err(fault) => return Err(fault),
+    };
+    match asked_path(alloc, path) {
+        Ok(Some(path)) => Ok(Some(Job::Verify(schema, ty, id, path, proof))),
+        Ok(None) => Ok(None),
+        Err(fault) => Err(fault),
+    }
+}
+
 /// What the words ask for, or `None` where they have no form.
 pub fn job_of(alloc: Global, words: &[String]) -> Result<Option<Job<'_>>, Fault>
     ensures { AsksFor (job_of words.now) result }
@@ -146,6 +187,17 @@ pub fn job_of(alloc: Global, words: &[String]) -> Result<Option<Job<'_>>, Fault>
                 ty.as_str(),
                 start.as_str(),
                 script.as_str(),
+            )
+        }
+        [verb, schema, ty, root, path, proof] => {
+            verify_job(
+                alloc,
+                verb.as_str(),
+                schema.as_str(),
+                ty.as_str(),
+                root.as_str(),
+                path.as_str(),
+                proof.as_str(),
             )
         }
         _ => Ok(None),
@@ -177,14 +229,15 @@ fn table_of(alloc: Global, bytes: &[u8]) -> Result<Accepted, Fault>
 }
 
 /// What is to be done, once the inputs are taken: the names that a schema declares are listed, a script is answered on a value of a type,
-/// or such a value is created or shown; or two types of two schemas are compared.
+/// or such a value is created or shown; or two types of two schemas are compared; or it is told what a proof says of a path in a value of a type.
 #[derive(Drop)]
-pub enum Task {
+pub enum Task<'j> {
     List(Accepted),
     Compare(Accepted, TypeNo, Accepted, TypeNo),
     Answer(Accepted, TypeNo, Start, Octets),
     Create(Accepted, TypeNo, Octets),
     Show(Accepted, TypeNo, BlockId),
+    Verify(Accepted, TypeNo, BlockId, &'j Path, Octets),
 }
 
 /// The type that has a name, which is in the table.
@@ -196,7 +249,7 @@ fn type_named(schema: &Accepted, name: &str) -> Option<TypeNo>
 }
 
 /// That the types with a name are to be compared, if both are there.
-fn plan_types(schema: Accepted, next: Accepted, ty: &str) -> Result<Task, Fault>
+fn plan_types<'j>(schema: Accepted, next: Accepted, ty: &str) -> Result<Task<'j>, Fault>
     ensures { TypesAnswer schema next ty.now result }
 {
     let Some(number) = type_named(&schema, ty) else {
@@ -209,13 +262,13 @@ fn plan_types(schema: Accepted, next: Accepted, ty: &str) -> Result<Task, Fault>
 }
 
 /// Takes and compiles the later schema, whose type is to be compared.
-fn plan_pair<I: Inputs>(
+fn plan_pair<'j, I: Inputs>(
     alloc: Global,
     inputs: &mut I,
     schema: Accepted,
     next: &str,
     ty: &str,
-) -> Result<Task, Fault>
+) -> Result<Task<'j>, Fault>
     ensures { OpensBehind (I.supply inputs.old) schema (λ name. compares name next.now ty.now) result (I.supply inputs.new) }
 {
     let bytes = take_input(inputs, Role::Next, next)?;
@@ -224,12 +277,12 @@ fn plan_pair<I: Inputs>(
 }
 
 /// Takes the input of a value, if its type is there.
-fn plan_value<I: Inputs>(
+fn plan_value<'j, I: Inputs>(
     inputs: &mut I,
     schema: Accepted,
     ty: &str,
     value: &str,
-) -> Result<Task, Fault>
+) -> Result<Task<'j>, Fault>
     ensures { OpensBehind (I.supply inputs.old) schema (λ name. creates name ty.now value.now) result (I.supply inputs.new) }
 {
     let Some(number) = type_named(&schema, ty) else {
@@ -242,13 +295,13 @@ fn plan_value<I: Inputs>(
 }
 
 /// Takes the script, if the type of its value is there.
-fn plan_script<I: Inputs>(
+fn plan_script<'j, I: Inputs>(
     inputs: &mut I,
     schema: Accepted,
     ty: &str,
     start: Start,
     script: &str,
-) -> Result<Task, Fault>
+) -> Result<Task<'j>, Fault>
     ensures { OpensBehind (I.supply inputs.old) schema (λ name. runs name ty.now start script.now) result (I.supply inputs.new) }
 {
     let Some(number) = type_named(&schema, ty) else {
@@ -261,12 +314,12 @@ fn plan_script<I: Inputs>(
 }
 
 /// That a root is to be opened, if its type is there.
-fn plan_root<I: Inputs>(
+fn plan_root<'j, I: Inputs>(
     inputs: &mut I,
     schema: Accepted,
     ty: &str,
     root: BlockId,
-) -> Result<Task, Fault>
+) -> Result<Task<'j>, Fault>
     ensures { OpensBehind (I.supply inputs.old) schema (λ name. shows name ty.now root.0) result (I.supply inputs.new) }
 {
     match type_named(&schema, ty) {
@@ -275,8 +328,32 @@ fn plan_root<I: Inputs>(
     }
 }
 
+/// Takes the input of a proof, if the type is there in whose value it is to say what stands at a path.
+fn plan_proof<'j, I: Inputs>(
+    inputs: &mut I,
+    schema: Accepted,
+    ty: &str,
+    root: BlockId,
+    path: &'j Path,
+    proof: &str,
+) -> Result<Task<'j>, Fault>
+    ensures { OpensBehind (I.supply inputs.old) schema (λ name. verifies name ty.now root.0 path.now proof.now) result (I.supply inputs.new) }
+{
+    let Some(number) = type_named(&schema, ty) else {
+        return Err(Fault::Words);
+    };
+    match take_input(inputs, Role::Proof, proof) {
+        Ok(bytes) => Ok(Task::Verify(schema, number, root, path, bytes)),
+        Err(fault) => Err(fault),
+    }
+}
+
 /// Takes the inputs in order, as far as the job leads, and says what is to be done.
-pub fn plan<I: Inputs>(alloc: Global, inputs: &mut I, job: &Job<'_>) -> Result<Task, Fault>
+pub fn plan<'j, I: Inputs>(
+    alloc: Global,
+    inputs: &mut I,
+    job: &'j Job<'_>,
+) -> Result<Task<'j>, Fault>
     ensures { TakesInputs (I.supply inputs.old) (job_seen job.now) result (I.supply inputs.new) }
 {
     let bytes = take_input(inputs, Role::Schema, job.schema())?;
@@ -286,6 +363,7 @@ pub fn plan<I: Inputs>(alloc: Global, inputs: &mut I, job: &Job<'_>) -> Result<T
         Job::Compat(_, next, ty) => plan_pair(alloc, inputs, schema, next, ty),
         Job::Run(_, ty, start, script) => plan_script(inputs, schema, ty, *start, script),
         Job::New(_, ty, value) => plan_value(inputs, schema, ty, value),
+        Job::Verify(_, ty, root, path, proof) => plan_proof(inputs, schema, ty, *root, path, proof),
         Job::Show(_, ty, root) => plan_root(inputs, schema, ty, *root),
     }
 }

@@ -3,10 +3,11 @@ ghost use Rattle.std.specs.Prelude.{◌≡◌, ◌≤◌, ◌<◌, length, Some}
 ghost use Rattle.ild_edges.specs.Inputs.{After};
 ghost use Rattle.ild_edges.specs.Store.{Later};
 ghost use Rattle.ild_run.specs.Words.{job_of};
-ghost use Rattle.ild_run.specs.Opening.{job_seen};
+ghost use Rattle.ild_run.specs.Opening.{job_seen, IsReady};
 ghost use Rattle.ild_run.specs.Fault.{cut_status};
 ghost use Rattle.ild_run.specs.Cut.{ToldAs};
 ghost use Rattle.ild_run.specs.Listed.{ListedAs};
+ghost use Rattle.ild_run.specs.inside.Carried.{EndsTask};
 ghost use Rattle.ild_run.specs.inside.Matched.{MatchedAs};
 ghost use Rattle.ild_run.specs.inside.Made.{MadeAs, made_fault};
 ghost use Rattle.ild_run.specs.inside.Answered.{AnsweredAs, start_fault};
@@ -21,6 +22,7 @@ use crate::generator::run_generator;
 use crate::listed::names_json;
 use crate::open::{Job, Task, job_of, plan};
 use crate::status::Status;
+use crate::weighing::weigh;
 use ild_data::{BlockId, Sha256Keys, Txt};
 use ild_edges::{Inputs, Sink, Store};
 use ild_run_compare::{CompareFault, compare};
@@ -190,6 +192,36 @@ fn answer<K: Store, W: Sink>(
     }
 }
 
+/// Does what a task is, and answers how it ended.
+fn carry_task<K: Store, W: Sink>(
+    alloc: Global,
+    task: &Task<'_>,
+    store: &mut K,
+    out: &mut W,
+) -> Status
+    requires { IsReady task.now }
+    ensures ended { EndsTask task.now (K.moment store.old) (W.output out.old) result (K.moment store.new) (W.output out.new) }
+    ensures later { Later (K.moment store.old) (K.moment store.new) }
+    ensures sink { (W.output out.old).faults ≤ (W.output out.new).faults }
+{
+    match task {
+        Task::List(schema) => list(alloc, schema.names(), out),
+        Task::Compare(schema, ty, next, later) => {
+            match_types(alloc, schema, *ty, next, *later, out)
+        }
+        Task::Answer(schema, ty, start, script) => {
+            answer(alloc, schema, *ty, *start, script.as_slice(), store, out)
+        }
+        Task::Create(schema, ty, bytes) => {
+            make(alloc, schema, *ty, bytes.as_slice(), store, out)
+        }
+        Task::Verify(schema, ty, root, path, proof) => {
+            weigh(alloc, schema, *ty, root, path, proof.as_slice(), out)
+        }
+        Task::Show(schema, ty, root) => present(alloc, schema, *ty, root, store, out),
+    }
+}
+
 /// Does what a job asks for, and answers how it ended.
 fn carry_job<I: Inputs, K: Store, W: Sink>(
     alloc: Global,
@@ -203,22 +235,9 @@ fn carry_job<I: Inputs, K: Store, W: Sink>(
     ensures later { Later (K.moment store.old) (K.moment store.new) }
     ensures sink { (W.output out.old).faults ≤ (W.output out.new).faults }
 {
-    let task = match plan(alloc, inputs, job) {
-        Ok(task) => task,
-        Err(fault) => return tell(alloc, fault, out),
-    };
-    match &task {
-        Task::List(schema) => list(alloc, schema.names(), out),
-        Task::Compare(schema, ty, next, later) => {
-            match_types(alloc, schema, *ty, next, *later, out)
-        }
-        Task::Answer(schema, ty, start, script) => {
-            answer(alloc, schema, *ty, *start, script.as_slice(), store, out)
-        }
-        Task::Create(schema, ty, bytes) => {
-            make(alloc, schema, *ty, bytes.as_slice(), store, out)
-        }
-        Task::Show(schema, ty, root) => present(alloc, schema, *ty, root, store, out),
+    match plan(alloc, inputs, job) {
+        Ok(task) => carry_task(alloc, &task, store, out),
+        Err(fault) => tell(alloc, fault, out),
     }
 }
 
@@ -251,7 +270,9 @@ fn carry_out<I: Inputs, K: Store, W: Sink>(
 /// or the first cause is told for which no store holds such a value. Under `show` the value of a type that stands under a root is read
 /// and written as DAG-JSON; or a block is told that isn't held, or isn't what has to stand there, where no such value does. Under `compat`
 /// the types with one name of two schemas are compared: `ok true` tells that all that stands as a value of the first stands as one of the
-/// other, in the same blocks and with the same shown form; or a pair of their types is told, and a rule that fails for it. Under `gen`
+/// other, in the same blocks and with the same shown form; or a pair of their types is told, and a rule that fails for it. Under `verify`
+/// no store is asked: what a list of blocks says of a path in the value of a type under a root is told, a part or that there is none; or the list
+/// is refused, where it says nothing. Under `gen`
 /// a map is generated, and its counts, the number of its entries and its root are written, which are those of a plain map.
 pub fn run<I: Inputs, K: Store, W: Sink>(
     alloc: Global,

@@ -7,6 +7,6 @@ pub returns-in-Some : goal.returns-in-Some
 returns-in-Some g c =
     opens_root (g.I.Inputs.supply c.args.inputs.now) c.args.schema c.args.ty.now c.args.root c.in-Some.number (sym c.in-Some.ensures.named) c.in-Some.ensures.within
 
-pub returns-in-None : goal.returns-in-None
-returns-in-None g c =
+pub returns : goal.returns
+returns g c =
     opens_no_type (g.I.Inputs.supply c.args.inputs.now) c.args.schema c.args.ty.now c.args.root.0 (sym c.type_named.ensures.named ∙ ap (option_map (λ (n : TypeNo). n.0)) c.in-None.is)

@@ -12,7 +12,7 @@ returns-in-Ok g c =
     opens_script (g.I.Inputs.supply c.args.inputs.now) (g.I.Inputs.supply c.take_input.new.inputs) c.args.schema c.args.ty.now c.args.script.now c.in-Some.number c.args.start (Ok c.in-Ok.bytes)
     (sym c.in-Some.ensures.named) c.in-Some.ensures.within c.in-Ok.ensures
 
-pub returns-in-Err : goal.returns-in-Err
-returns-in-Err g c =
+pub returns : goal.returns
+returns g c =
     opens_script (g.I.Inputs.supply c.args.inputs.now) (g.I.Inputs.supply c.take_input.new.inputs) c.args.schema c.args.ty.now c.args.script.now c.in-Some.number c.args.start (Err c.in-Err.fault)
     (sym c.in-Some.ensures.named) c.in-Some.ensures.within c.in-Err.ensures

@@ -9,5 +9,5 @@ returns-in_default c = none_first c.args.schema c.args.next c.args.ty.now (sym c
 pub returns-in-Some-type_named : goal.returns-in-Some-type_named
 returns-in-Some-type_named c = types_found c.args.schema c.args.next c.args.ty.now c.in-Some.number c.in-Some-type_named.later (sym c.in-Some.ensures.named) (sym c.in-Some-type_named.ensures.named) c.in-Some.ensures.within c.in-Some-type_named.ensures.within
 
-pub returns-in-None : goal.returns-in-None
-returns-in-None c = none_later c.args.schema c.args.next c.args.ty.now c.in-Some.number.0 (sym c.in-Some.ensures.named) (sym c.type_named-2.ensures.named ∙ ap (option_map (λ (n : TypeNo). n.0)) c.in-None.is)
+pub returns : goal.returns
+returns c = none_later c.args.schema c.args.next c.args.ty.now c.in-Some.number.0 (sym c.in-Some.ensures.named) (sym c.type_named-2.ensures.named ∙ ap (option_map (λ (n : TypeNo). n.0)) c.in-None.is)
