@@ -1,0 +1,5 @@
+//! Tests of roots that name their schema.
+#![tactic(auto)]
+
+#[cfg(test)]
+mod rows;

@@ -1,0 +1,4 @@
+pub mod Within
+pub mod Told
+pub mod Stepping
+pub mod Moving

@@ -1,0 +1,4 @@
+pub mod Describes
+pub mod Shows
+pub mod Migrates
+pub mod inside
