@@ -12,6 +12,7 @@ use Rattle.ild_run.specs.Work.{Work, Taking, ends, lists, answers, makes, opens,
 use Rattle.ild_run.specs.Words.{Job, checks}
 use Rattle.ild_run.specs.Ended.{Call, IsDue, AsksScript, TriesValue, ReadsRoot, Says, Ended}
 use Rattle.ild_run.specs.Complete.{IsGivenSchema, IsCalm, IsComplete}
+use Rattle.ild_run.proofs.CompletesHeads.{kept_by}
 use Rattle.ild_run.proofs.CompletesPair.{compared_by}
 use Rattle.ild_run.proofs.CompletesProof.{verified_by}
 use Rattle.ild_run.proofs.Matchings.{other_sort}
@@ -95,13 +96,15 @@ listed_by : (c : Call) (rows : List Row) (given : IsGivenSchema c rows) (calm : 
 listed_by c rows given calm t S.Done taken (inl all) = absurd (no_check_answers (work_of c.job t) rows all.script.rows all.script.type all.script.start all.script.bytes (checked_work c rows given t taken) all.script.work)
 listed_by c rows given calm t S.Done taken (inr (inr (inl created))) = absurd (no_check_value (work_of c.job t) rows created.value.rows created.value.type created.value.bytes (checked_work c rows given t taken) created.value.work)
 listed_by c rows given calm t S.Done taken (inr (inr (inr (inr (inl told))))) = absurd (other_sort _ _ _ (checked_work c rows given t taken) told.types.work refl refl)
-listed_by c rows given calm t S.Done taken (inr (inr (inr (inr (inr told))))) = absurd (other_sort _ _ _ (checked_work c rows given t taken) told.proof.work refl refl)
+listed_by c rows given calm t S.Done taken (inr (inr (inr (inr (inr (inl told)))))) = absurd (other_sort _ _ _ (checked_work c rows given t taken) told.proof.work refl refl)
+listed_by c rows given calm t S.Done taken (inr (inr (inr (inr (inr (inr all)))))) = absurd (other_sort _ _ _ (checked_work c rows given t taken) all.script.work refl refl)
 listed_by c rows given calm t S.Done taken (inr (inr (inr (inl shows)))) = absurd (let has = shows.1.has in no_check_root (work_of c.job t) rows has.opened.rows has.opened.type has.opened.root (checked_work c rows given t taken) has.opened.work)
 listed_by c rows given calm t S.Done taken (inr (inl listed)) =
     inr (refl, subst (λ (names : List (List ℕ)). Lists names c.before.output c.after.output) (same_names (work_of c.job t) listed.names rows (checked_work c rows given t taken) listed.work) listed.written)
 listed_by c rows given calm t S.Refused taken (inl all) = absurd (no_check_answers (work_of c.job t) rows all.script.rows all.script.type all.script.start all.script.bytes (checked_work c rows given t taken) all.script.work)
 listed_by c rows given calm t S.Refused taken (inr (inr (inl told))) = absurd (other_sort _ _ _ (checked_work c rows given t taken) told.1.types.work refl refl)
-listed_by c rows given calm t S.Refused taken (inr (inr (inr told))) = absurd (other_sort _ _ _ (checked_work c rows given t taken) told.proof.work refl refl)
+listed_by c rows given calm t S.Refused taken (inr (inr (inr (inl told)))) = absurd (other_sort _ _ _ (checked_work c rows given t taken) told.proof.work refl refl)
+listed_by c rows given calm t S.Refused taken (inr (inr (inr (inr all)))) = absurd (other_sort _ _ _ (checked_work c rows given t taken) all.script.work refl refl)
 listed_by c rows given calm t S.Refused taken (inr (inl shows)) = absurd (let has = shows.has in no_check_root (work_of c.job t) rows has.opened.rows has.opened.type has.opened.root (checked_work c rows given t taken) has.opened.work)
 listed_by c rows given calm t S.Memory taken says = inl refl
 listed_by c rows given calm t S.SinkFault taken says = absurd (calm.sink says.0)
@@ -123,4 +126,5 @@ complete_from c status ended = record {
   shows = λ v given calm. shown_by c v given calm ended.taking status ended.taken ended.says;
   compares = λ given calm. compared_by c given calm ended.taking status ended.taken ended.says;
   verifies = λ given calm. verified_by c given calm ended.taking status ended.taken ended.says;
+  keeps = λ script given calm. kept_by c script given calm ended.taking status ended.taken ended.says;
 }

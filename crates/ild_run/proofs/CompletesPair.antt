@@ -9,7 +9,7 @@ use Rattle.ild_run_compare.specs.Compared.{IsTold}
 use Rattle.ild_schema.specs.Names.{number_named}
 use Rattle.ild_schema.specs.declared.number.TypeNo.{TypeNo}
 use Rattle.ild_schema.specs.declared.row.Row.{Row}
-use Rattle.ild_run.specs.Work.{Work, Taking, ends, lists, matches, answers, makes, opens, weighs, types_work, next_compiled, next_work, compiled_work, schema_work, job_work, work_of, IsVerdict, IsTaking, AreTaken}
+use Rattle.ild_run.specs.Work.{Work, Taking, ends, lists, matches, answers, makes, opens, weighs, serves, types_work, next_compiled, next_work, compiled_work, schema_work, job_work, work_of, IsVerdict, IsTaking, AreTaken}
 use Rattle.ild_run.specs.Words.{Job, compares}
 use Rattle.ild_run.specs.Ended.{Call, IsDue, AsksScript, TriesValue, ReadsRoot, MatchesTypes, Says}
 use Rattle.ild_run.specs.Complete.{IsGivenPair, IsCalm, ComparesPlainly}
@@ -33,6 +33,7 @@ OfMatched P (answers rows n start b) = ⊥
 OfMatched P (makes rows n b) = ⊥
 OfMatched P (opens rows n id) = ⊥
 OfMatched P (weighs rows n id path b) = ⊥
+OfMatched P (serves rows n b) = ⊥
 
 no_end : (w : Work) (f : Fault) (rows others : List Row) (m n : TypeNo) → Comparing w rows others m n → (f ≡ F.Memory → ⊥) → w ≡ ends f → ⊥
 no_end w f rows others m n (inl is) other ended = let e : matches rows others m n ≡ ends f = sym is ∙ ended in cc
@@ -121,10 +122,12 @@ module _ (c : Call) (given : IsGivenPair c) where
     by_status S.Done (inr (inr (inl made))) = absurd (other_sort _ _ _ here made.value.work refl refl)
     by_status S.Done (inr (inr (inr (inl shows)))) = absurd (other_sort _ _ _ here shows.1.has.opened.work refl refl)
     by_status S.Done (inr (inr (inr (inr (inl told))))) = inr (None, (refl, said None told))
-    by_status S.Done (inr (inr (inr (inr (inr told))))) = absurd (other_sort _ _ _ here told.proof.work refl refl)
+    by_status S.Done (inr (inr (inr (inr (inr (inl told)))))) = absurd (other_sort _ _ _ here told.proof.work refl refl)
+    by_status S.Done (inr (inr (inr (inr (inr (inr all)))))) = absurd (other_sort _ _ _ here all.script.work refl refl)
     by_status S.Refused (inl all) = absurd (other_sort _ _ _ here all.script.work refl refl)
     by_status S.Refused (inr (inl shows)) = absurd (other_sort _ _ _ here shows.has.opened.work refl refl)
-    by_status S.Refused (inr (inr (inr told))) = absurd (other_sort _ _ _ here told.proof.work refl refl)
+    by_status S.Refused (inr (inr (inr (inl told)))) = absurd (other_sort _ _ _ here told.proof.work refl refl)
+    by_status S.Refused (inr (inr (inr (inr all)))) = absurd (other_sort _ _ _ here all.script.work refl refl)
     by_status S.Refused (inr (inr (inl told))) = inr (Some told.0, (refl, said (Some told.0) told.1))
     by_status S.Memory says = inl refl
     by_status S.SinkFault says = absurd (calm.sink says.0)

@@ -7,12 +7,12 @@ use Rattle.ild_edges.specs.Sink.{Appends}
 use Rattle.ild_edges.specs.declared.inputs.Taken.{Taken}
 use Rattle.ild_inclusion.specs.declared.answer.Answer.{Answer}
 use Rattle.ild_run_verify.proofs.OneSaid.{one_said, none_said}
-use Rattle.ild_run_verify.specs.Verified.{IsTold, SaysNothing, WritesLine}
+use Rattle.ild_run_verify.specs.Verified.{IsTold, ProofSays, SaysNothing, WritesLine}
 use Rattle.ild_schema.specs.Names.{number_named}
 use Rattle.ild_schema.specs.Table.{IsTable}
 use Rattle.ild_schema.specs.declared.number.TypeNo.{TypeNo}
 use Rattle.ild_schema.specs.declared.row.Row.{Row}
-use Rattle.ild_run.specs.Work.{Work, Taking, ends, lists, matches, answers, makes, opens, weighs, verify_work, compiled_work, schema_work, job_work, work_of, IsVerdict, IsTaking, AreTaken}
+use Rattle.ild_run.specs.Work.{Work, Taking, ends, lists, matches, answers, makes, opens, weighs, serves, verify_work, compiled_work, schema_work, job_work, work_of, IsVerdict, IsTaking, AreTaken}
 use Rattle.ild_run.specs.Words.{Job, verifies}
 use Rattle.ild_run.specs.Ended.{Call, IsDue, AsksScript, TriesValue, ReadsRoot, RefusesProof, VerifiesPath, Says}
 use Rattle.ild_run.specs.Complete.{IsGivenProof, IsCalm, VerifiesPlainly}
@@ -32,6 +32,7 @@ Weighing w rows n id path b = (w ≡ weighs rows n id path b) ⊎ (w ≡ ends F.
 -- what is said of the proof that is weighed
 abbrev OfWeighed : (List Row → TypeNo → List ℕ → List (List ℕ) → List ℕ → Type 0) → Work → Type 0
 OfWeighed P (weighs rows n id path b) = P rows n id path b
+OfWeighed P (serves rows n b) = ⊥
 OfWeighed P (ends f) = ⊥
 OfWeighed P (lists names) = ⊥
 OfWeighed P (matches rows others m n) = ⊥
@@ -149,11 +150,13 @@ module _ (c : Call) (given : IsGivenProof c) where
     by_status S.Done (inr (inr (inl made))) = absurd (other_sort _ _ _ here made.value.work refl refl)
     by_status S.Done (inr (inr (inr (inl shows)))) = absurd (other_sort _ _ _ here shows.1.has.opened.work refl refl)
     by_status S.Done (inr (inr (inr (inr (inl told))))) = absurd (other_sort _ _ _ here told.types.work refl refl)
-    by_status S.Done (inr (inr (inr (inr (inr told))))) = inr (told_plainly false S.Done refl told)
+    by_status S.Done (inr (inr (inr (inr (inr (inl told)))))) = inr (told_plainly false S.Done refl told)
+    by_status S.Done (inr (inr (inr (inr (inr (inr all)))))) = absurd (other_sort _ _ _ here all.script.work refl refl)
     by_status S.Refused (inl all) = absurd (other_sort _ _ _ here all.script.work refl refl)
     by_status S.Refused (inr (inl shows)) = absurd (other_sort _ _ _ here shows.has.opened.work refl refl)
     by_status S.Refused (inr (inr (inl told))) = absurd (other_sort _ _ _ here told.1.types.work refl refl)
-    by_status S.Refused (inr (inr (inr told))) = inr (told_plainly true S.Refused refl told)
+    by_status S.Refused (inr (inr (inr (inl told)))) = inr (told_plainly true S.Refused refl told)
+    by_status S.Refused (inr (inr (inr (inr all)))) = absurd (other_sort _ _ _ here all.script.work refl refl)
     by_status S.Memory says = inl refl
     by_status S.SinkFault says = absurd (calm.sink says.0)
     by_status S.Words says = absurd (let e = no_fault F.Words (λ e. cc) says.due in cc)

@@ -14,7 +14,7 @@ use Rattle.ild_run_show.specs.Shows.{HasShown, NotOpened}
 use Rattle.ild_run_show.proofs.OneShown.{shown_stands, none_refused}
 use Rattle.ild_typed.specs.Shown.{shown}
 use Rattle.ild_run_open.specs.declared.start.Start.{Start}
-use Rattle.ild_run.specs.Work.{Work, Taking, ends, lists, matches, answers, makes, opens, weighs, root_work, compiled_work, schema_work, job_work, work_of, IsVerdict, IsTaking, AreTaken}
+use Rattle.ild_run.specs.Work.{Work, Taking, ends, lists, matches, answers, makes, opens, weighs, serves, root_work, compiled_work, schema_work, job_work, work_of, IsVerdict, IsTaking, AreTaken}
 use Rattle.ild_run.specs.Shown.{hash}
 use Rattle.ild_run.specs.Words.{Job, shows}
 use Rattle.ild_run.specs.Ended.{Call, IsDue, HasRoot, Says}
@@ -80,6 +80,7 @@ OfOpened P (ends f) = ⊥
 OfOpened P (lists names) = ⊥
 OfOpened P (matches rows others m n) = ⊥
 OfOpened P (weighs rows n id path b) = ⊥
+OfOpened P (serves rows n b) = ⊥
 OfOpened P (answers rows n start b) = ⊥
 OfOpened P (makes rows n b) = ⊥
 
@@ -125,12 +126,14 @@ shown_by c v given calm t S.Done taken (inl all) = absurd (no_answers (work_of c
 shown_by c v given calm t S.Done taken (inr (inl listed)) = absurd (no_list (work_of c.job t) listed.names given.typed.rows given.typed.type given.root (work_opens c v given t taken) listed.work)
 shown_by c v given calm t S.Done taken (inr (inr (inl made))) = absurd (no_value (work_of c.job t) made.value.rows made.value.type made.value.bytes given.typed.rows given.typed.type given.root (work_opens c v given t taken) made.value.work)
 shown_by c v given calm t S.Done taken (inr (inr (inr (inr (inl told))))) = absurd (other_sort _ _ _ (work_opens c v given t taken) told.types.work refl refl)
-shown_by c v given calm t S.Done taken (inr (inr (inr (inr (inr told))))) = absurd (other_sort _ _ _ (work_opens c v given t taken) told.proof.work refl refl)
+shown_by c v given calm t S.Done taken (inr (inr (inr (inr (inr (inl told)))))) = absurd (other_sort _ _ _ (work_opens c v given t taken) told.proof.work refl refl)
+shown_by c v given calm t S.Done taken (inr (inr (inr (inr (inr (inr all)))))) = absurd (other_sort _ _ _ (work_opens c v given t taken) all.script.work refl refl)
 shown_by c v given calm t S.Done taken (inr (inr (inr (inl there)))) =
     inr (subst (ShownBy c S.Done) (sym (same_json c v given t (Some there.0) taken there.1.has)) (refl, there.1.written))
 shown_by c v given calm t S.Refused taken (inl all) = absurd (no_answers (work_of c.job t) given.typed.rows given.typed.type given.root all.script.rows all.script.type all.script.start all.script.bytes (work_opens c v given t taken) all.script.work)
 shown_by c v given calm t S.Refused taken (inr (inr (inl told))) = absurd (other_sort _ _ _ (work_opens c v given t taken) told.1.types.work refl refl)
-shown_by c v given calm t S.Refused taken (inr (inr (inr told))) = absurd (other_sort _ _ _ (work_opens c v given t taken) told.proof.work refl refl)
+shown_by c v given calm t S.Refused taken (inr (inr (inr (inl told)))) = absurd (other_sort _ _ _ (work_opens c v given t taken) told.proof.work refl refl)
+shown_by c v given calm t S.Refused taken (inr (inr (inr (inr all)))) = absurd (other_sort _ _ _ (work_opens c v given t taken) all.script.work refl refl)
 shown_by c v given calm t S.Refused taken (inr (inl there)) = inr (subst (ShownBy c S.Refused) (sym (same_json c v given t None taken there.has)) (refl, there.written))
 shown_by c v given calm t S.Memory taken says = inl refl
 shown_by c v given calm t S.SinkFault taken says = absurd (calm.calm.sink says.0)

@@ -33,7 +33,7 @@ use Rattle.ild_script_session.specs.Step.{Carries}
 use Rattle.ild_typed.proofs.TreeKept.{one_stands}
 use Rattle.ild_typed.specs.Schema.{IsSchema}
 use Rattle.ild_typed.specs.Stands.{bare, IsFrame, Stands}
-use Rattle.ild_run.specs.Work.{Work, Taking, ends, lists, matches, answers, makes, opens, weighs, run_work, compiled_work, schema_work, job_work, work_of, IsVerdict, IsTaking, AreTaken}
+use Rattle.ild_run.specs.Work.{Work, Taking, ends, lists, matches, answers, makes, opens, weighs, serves, run_work, compiled_work, schema_work, job_work, work_of, IsVerdict, IsTaking, AreTaken}
 use Rattle.ild_run.specs.Words.{Job, runs}
 use Rattle.ild_run.specs.Ended.{Call, IsDue, AnswersAll, Says}
 use Rattle.ild_run.specs.Complete.{IsGiven, IsUndisturbed, AnswersPlainly}
@@ -83,6 +83,7 @@ OfRun Q (matches rows others m n) = ⊥
 OfRun Q (makes rows n b) = ⊥
 OfRun Q (opens rows n id) = ⊥
 OfRun Q (weighs rows n id path b) = ⊥
+OfRun Q (serves rows n b) = ⊥
 
 said : (Q : List Row → TypeNo → Start → List ℕ → Type 0) (w : Work) (rows run : List Row) (n m : TypeNo) (start s : Start) (b d : List ℕ) → Running w rows n start b → w ≡ answers run m s d → Q run m s d → Q rows n start b
 said Q w rows run n m start s b d (inl is) work q = subst (OfRun Q) (sym work ∙ is) q
@@ -219,11 +220,13 @@ module _ (c : Call) (tests : Tests) (v : Typed) (script : List ℕ) (given : IsG
     run_by S.Done (inr (inl listed)) = absurd (no_list (work_of c.job t) listed.names given.typed.rows given.typed.type given.start script here listed.work)
     run_by S.Done (inr (inr (inl created))) = absurd (makes_not created.value.rows created.value.type created.value.bytes created.value.work)
     run_by S.Done (inr (inr (inr (inr (inl told))))) = absurd (other_sort _ _ _ here told.types.work refl refl)
-    run_by S.Done (inr (inr (inr (inr (inr told))))) = absurd (other_sort _ _ _ here told.proof.work refl refl)
+    run_by S.Done (inr (inr (inr (inr (inr (inl told)))))) = absurd (other_sort _ _ _ here told.proof.work refl refl)
+    run_by S.Done (inr (inr (inr (inr (inr (inr all)))))) = absurd (other_sort _ _ _ here all.script.work refl refl)
     run_by S.Done (inr (inr (inr (inl shows)))) = absurd (let has = shows.1.has in opens_not has.opened.rows has.opened.type has.opened.root has.opened.work)
     run_by S.Refused (inl all) = inr (plainly S.Refused true refl all)
     run_by S.Refused (inr (inr (inl told))) = absurd (other_sort _ _ _ here told.1.types.work refl refl)
-    run_by S.Refused (inr (inr (inr told))) = absurd (other_sort _ _ _ here told.proof.work refl refl)
+    run_by S.Refused (inr (inr (inr (inl told)))) = absurd (other_sort _ _ _ here told.proof.work refl refl)
+    run_by S.Refused (inr (inr (inr (inr all)))) = absurd (other_sort _ _ _ here all.script.work refl refl)
     run_by S.Refused (inr (inl shows)) = absurd (let has = shows.has in opens_not has.opened.rows has.opened.type has.opened.root has.opened.work)
     run_by S.Memory says = inl refl
     run_by S.SinkFault says = absurd (calm.faultless.calm.sink says.0)

@@ -18,7 +18,7 @@ use Rattle.ild_schema.specs.declared.number.TypeNo.{TypeNo}
 use Rattle.ild_schema.specs.declared.row.Row.{Row}
 use Rattle.ild_typed.specs.Stands.{bare, root_id, blocks_of, Stands}
 use Rattle.ild_run_open.specs.declared.start.Start.{Start}
-use Rattle.ild_run.specs.Work.{Work, Taking, ends, lists, matches, answers, makes, opens, weighs, type_work, compiled_work, schema_work, job_work, work_of, IsVerdict, IsTaking, AreTaken}
+use Rattle.ild_run.specs.Work.{Work, Taking, ends, lists, matches, answers, makes, opens, weighs, serves, type_work, compiled_work, schema_work, job_work, work_of, IsVerdict, IsTaking, AreTaken}
 use Rattle.ild_run.specs.Shown.{hash}
 use Rattle.ild_run.specs.Words.{Job, creates}
 use Rattle.ild_run.specs.Ended.{Call, IsDue, CreatesValue, Says}
@@ -90,6 +90,7 @@ OfMade P (ends f) = ⊥
 OfMade P (lists names) = ⊥
 OfMade P (matches rows others m n) = ⊥
 OfMade P (weighs rows n id path b) = ⊥
+OfMade P (serves rows n b) = ⊥
 OfMade P (answers rows n start b) = ⊥
 OfMade P (opens rows n id) = ⊥
 
@@ -151,12 +152,14 @@ created_by c v d given calm t S.Done taken (inl all) = absurd (no_answers (work_
 created_by c v d given calm t S.Done taken (inr (inl listed)) = absurd (no_list (work_of c.job t) listed.names given.typed.rows given.typed.type given.bytes (work_makes c v d given t taken) listed.work)
 created_by c v d given calm t S.Done taken (inr (inr (inl made))) = inr (created_so c v d given t taken made)
 created_by c v d given calm t S.Done taken (inr (inr (inr (inr (inl told))))) = absurd (other_sort _ _ _ (work_makes c v d given t taken) told.types.work refl refl)
-created_by c v d given calm t S.Done taken (inr (inr (inr (inr (inr told))))) = absurd (other_sort _ _ _ (work_makes c v d given t taken) told.proof.work refl refl)
+created_by c v d given calm t S.Done taken (inr (inr (inr (inr (inr (inl told)))))) = absurd (other_sort _ _ _ (work_makes c v d given t taken) told.proof.work refl refl)
+created_by c v d given calm t S.Done taken (inr (inr (inr (inr (inr (inr all)))))) = absurd (other_sort _ _ _ (work_makes c v d given t taken) all.script.work refl refl)
 created_by c v d given calm t S.Done taken (inr (inr (inr (inl shows)))) =
     absurd (let has = shows.1.has in no_root (work_of c.job t) has.opened.rows has.opened.type has.opened.root given.typed.rows given.typed.type given.bytes (work_makes c v d given t taken) has.opened.work)
 created_by c v d given calm t S.Refused taken (inl all) = absurd (no_answers (work_of c.job t) given.typed.rows given.typed.type given.bytes all.script.rows all.script.type all.script.start all.script.bytes (work_makes c v d given t taken) all.script.work)
 created_by c v d given calm t S.Refused taken (inr (inr (inl told))) = absurd (other_sort _ _ _ (work_makes c v d given t taken) told.1.types.work refl refl)
-created_by c v d given calm t S.Refused taken (inr (inr (inr told))) = absurd (other_sort _ _ _ (work_makes c v d given t taken) told.proof.work refl refl)
+created_by c v d given calm t S.Refused taken (inr (inr (inr (inl told)))) = absurd (other_sort _ _ _ (work_makes c v d given t taken) told.proof.work refl refl)
+created_by c v d given calm t S.Refused taken (inr (inr (inr (inr all)))) = absurd (other_sort _ _ _ (work_makes c v d given t taken) all.script.work refl refl)
 created_by c v d given calm t S.Refused taken (inr (inl shows)) =
     absurd (let has = shows.has in no_root (work_of c.job t) has.opened.rows has.opened.type has.opened.root given.typed.rows given.typed.type given.bytes (work_makes c v d given t taken) has.opened.work)
 created_by c v d given calm t S.Memory taken says = inl refl

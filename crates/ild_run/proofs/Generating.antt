@@ -45,6 +45,7 @@ complete_none c status none = record {
   shows = λ v given calm. absurd (never c.job _ none given.job);
   compares = λ given calm. absurd (never c.job _ none given.job);
   verifies = λ given calm. absurd (never c.job _ none given.job);
+  keeps = λ script given calm. absurd (never c.job _ none given.job);
 }
 
 -- ---- a sink that doesn't fail

@@ -15,7 +15,7 @@ use Rattle.ild_run.specs.Cut.{ToldAs}
 use Rattle.ild_run.specs.Ended.{Call, MatchesTypes, MatchesSome, Says, Ended}
 use Rattle.ild_run.specs.inside.Matched.{MatchedTold, MatchedAs}
 use Rattle.ild_run.specs.Words.{Job}
-use Rattle.ild_run.specs.Work.{Work, Taking, ends, lists, matches, answers, makes, opens, weighs, work_of, job_work, IsTaking}
+use Rattle.ild_run.specs.Work.{Work, Taking, ends, lists, matches, answers, makes, opens, weighs, serves, work_of, job_work, IsTaking}
 use Rattle.ild_run.specs.declared.fault.Fault.TheVariants as F
 use Rattle.ild_run.specs.declared.status.Status.{Status}
 use Rattle.ild_run.proofs.Endings.{are_taken, is_work, says_by}
@@ -30,6 +30,7 @@ sort_of (answers rows n start b) = 3
 sort_of (makes rows n b) = 4
 sort_of (opens rows n id) = 5
 sort_of (weighs rows n id path b) = 6
+sort_of (serves rows n b) = 7
 
 -- a work, or want of memory in its place, is none of another sort
 pub other_sort : (w a b : Work) → (w ≡ a) ⊎ (w ≡ ends F.Memory) → w ≡ b → nat_eq (sort_of a) (sort_of b) ≡ false → nat_eq 0 (sort_of b) ≡ false → ⊥

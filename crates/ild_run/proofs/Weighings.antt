@@ -34,16 +34,16 @@ module _ (c : Call) (t : Taking) (rows : List Row) (n : TypeNo) (id : List ℕ) 
   }
 
   says_weighed : (result : Result Bool VerifyFault) (behind : Output) (status : Status) → VerifyAnswer hash rows n id path b c.before.output result behind → WeighedTold result behind status c.after.output → Says c t status
-  says_weighed (Ok false) behind status answer told = subst (λ (s : Status). Says c t s) (sym told.0) (inr (inr (inr (inr (inr (told_of false behind told.1 answer))))))
-  says_weighed (Ok true) behind status answer told = subst (λ (s : Status). Says c t s) (sym told.0) (inr (inr (inr (told_of true behind told.1 answer))))
+  says_weighed (Ok false) behind status answer told = subst (λ (s : Status). Says c t s) (sym told.0) (inr (inr (inr (inr (inr (inl (told_of false behind told.1 answer)))))))
+  says_weighed (Ok true) behind status answer told = subst (λ (s : Status). Says c t s) (sym told.0) (inr (inr (inr (inl (told_of true behind told.1 answer)))))
   says_weighed (Err X.Proof) behind status answer told =
       let refused : RefusesProof c t = record { proof = record { rows = rows; type = n; root = id; path = path; bytes = b; work = work; same = same }; table = table; nothing = answer.0 } in
       says_by c t F.Proof status refused same (subst (λ (o : Output). ToldAs F.Proof o status c.after.output) answer.1 told).told
   says_weighed (Err X.Memory) behind status answer told = says_by c t F.Memory status tt (inl same) (subst (λ (o : Output). ToldAs F.Memory o status c.after.output) answer told).told
   says_weighed (Err (X.Cut C.Sink)) behind status answer told =
       let rose = subst (λ (o : Output). Rose c.before.output.faults o.faults) (sym told.1) answer.0 in
-      subst (λ (s : Status). Says c t s) (sym told.0) (rose, inr (inr (inr (inr (inr (inr (some_of behind told.1 answer.1)))))))
-  says_weighed (Err (X.Cut C.Memory)) behind status answer told = subst (λ (s : Status). Says c t s) (sym told.0) (inr (inr (inr (inr (inr (inr (inr (some_of behind told.1 answer))))))))
+      subst (λ (s : Status). Says c t s) (sym told.0) (rose, inr (inr (inr (inr (inr (inr (inl (some_of behind told.1 answer.1))))))))
+  says_weighed (Err (X.Cut C.Memory)) behind status answer told = subst (λ (s : Status). Says c t s) (sym told.0) (inr (inr (inr (inr (inr (inr (inr (inl (some_of behind told.1 answer)))))))))
 
 pub ended_weighed : (c : Call) (job : Job) (t : Taking) (rows : List Row) (n : TypeNo) (id : List ℕ) (path : List (List ℕ)) (b : List ℕ) (status : Status) → c.job ≡ Some job → IsTaking job c.before.supply t
     → job_work job t ≡ weighs rows n id path b → c.after.moment ≡ c.before.moment → WeighedAs rows n id path b c.before.output status c.after.output → Ended c status

@@ -33,9 +33,11 @@ use Rattle.ild_typed.specs.Stands.{bare, root_id, blocks_of as typed_blocks, Sta
 use Rattle.ild_compat.specs.declared.rule.Differ.{Differ}
 use Rattle.ild_run_compare.specs.Compared.{IsTold}
 use Rattle.ild_inclusion.specs.declared.answer.Answer.{Answer}
+use Rattle.ild_run_heads.specs.Heads.{HeadsDone}
+use Rattle.ild_run_work.specs.Rules.{rules_of}
 use Rattle.ild_run_verify.specs.Verified.{ProofSays, SaysNothing, WritesLine}
 use Rattle.ild_run.specs.Fault.{fault_text}
-use Rattle.ild_run.specs.Words.{checks, compares, runs, creates, shows, verifies}
+use Rattle.ild_run.specs.Words.{checks, compares, runs, creates, shows, verifies, keeps}
 use Rattle.ild_run.specs.Listed.{Lists}
 use Rattle.ild_run.specs.Shown.{hash, reserved}
 use Rattle.ild_run.specs.Ended.{Call}
@@ -202,8 +204,25 @@ pub record VerifiesPlainly (c : Call) (given : IsGivenProof c) (status : Status)
   pub refused : SaysNothing hash given.typed.rows given.typed.type given.root given.path given.bytes
       → (status ≡ S.Value) × Appends c.before.output.written c.after.output.written (fault_text F.Proof)
 
+-- the words ask for a script over named heads; the inputs tell and hold what they name, and the schema is accepted and has the type
+pub record IsGivenHeads (c : Call) (script : List ℕ) : Type 0 where
+  pub schema_name : List ℕ
+  pub type_name : List ℕ
+  pub script_name : List ℕ
+  pub job : c.job ≡ Some (keeps schema_name type_name script_name)
+  pub files : List (List ℕ × List ℕ)
+  pub told : c.before.supply.files ≡ Some files
+  pub typed : HasType files schema_name type_name
+  pub script_held : taken_of (file_at files script_name) ≡ Taken.Bytes script
+
+-- every line of the script was answered, and all was written
+pub record KeepsPlainly (c : Call) (rows : List Row) (n : TypeNo) (script : List ℕ) (status : Status) : Type 0 where
+  pub refused : Bool
+  pub all : HeadsDone (rules_of rows n) c.before.moment (lines_of script) c.after.moment c.before.output.written c.after.output.written refused
+  pub status_is : status ≡ (if refused then S.Refused else S.Done)
+
 -- a script is answered plainly, the names of an accepted schema are listed, a value that a store can hold is created, one that stands
--- under a root is shown, the types of two accepted schemas are compared, and it is told what a proof says
+-- under a root is shown, the types of two accepted schemas are compared, it is told what a proof says, and a script over named heads is answered
 pub record IsComplete (c : Call) (status : Status) : Type 0 where
   pub runs : (tests : Tests) (v : Typed) (script : List ℕ) (given : IsGiven c tests v script)
       → IsUndisturbed c given.typed.rows given.typed.type tests given.start v script → (status ≡ S.Memory) ⊎ AnswersPlainly c given.typed.rows given.typed.type tests v script status
@@ -212,6 +231,7 @@ pub record IsComplete (c : Call) (status : Status) : Type 0 where
   pub shows : (v : Typed) (given : IsGivenRoot c v) → IsFaultless c → (status ≡ S.Memory) ⊎ ShowsPlainly c given.typed.rows given.typed.type v status
   pub compares : (given : IsGivenPair c) → IsCalm c → (status ≡ S.Memory) ⊎ ComparesPlainly c given.typed.rows given.next.rows given.typed.type given.next.type status
   pub verifies : (given : IsGivenProof c) → IsCalm c → (status ≡ S.Memory) ⊎ VerifiesPlainly c given status
+  pub keeps : (script : List ℕ) (given : IsGivenHeads c script) → IsCalm c → (status ≡ S.Memory) ⊎ KeepsPlainly c given.typed.rows given.typed.type script status
 
 -- The premise on collisions can be met: where all that a store holds, and all that may come, are among blocks of which no two have one id.
 abbrev pub CanBeApart : Type 0

@@ -28,8 +28,11 @@ use Rattle.ild_run_show.specs.Shows.{GetsItsBlocks, HasShown, NotOpened}
 use Rattle.ild_run.specs.Shown.{hash, reserved}
 use Rattle.ild_compat.specs.declared.rule.Differ.{Differ}
 use Rattle.ild_run_compare.specs.Compared.{IsTold, IsCutOff}
+use Rattle.ild_run_heads.specs.Heads.{HeadsDone, HeadsCut}
+use Rattle.ild_run_work.specs.Rules.{rules_of}
+use Rattle.ild_script.specs.Line.{lines_of}
 use Rattle.ild_run_verify.specs.Verified.{SaysNothing, IsTold as IsSaid, IsCutOff as IsSaidFront}
-use Rattle.ild_run.specs.Work.{Taking, ends, lists, matches, answers, makes, opens, weighs, work_of, AreTaken, Reaches}
+use Rattle.ild_run.specs.Work.{Taking, ends, lists, matches, answers, makes, opens, weighs, serves, work_of, AreTaken, Reaches}
 use Rattle.ild_run.specs.Fault.{fault_text}
 use Rattle.ild_run.specs.Listed.{Lists, ListsFront}
 use Rattle.ild_run.specs.declared.fault.Fault.{Fault}
@@ -99,6 +102,13 @@ pub record WeighsProof (c : Call) (t : Taking) : Type 0 where
   pub bytes : List ℕ
   pub work : work_of c.job t ≡ weighs rows type root path bytes
   pub same : c.after.moment ≡ c.before.moment
+
+-- a script over named heads, under which values of a type stand
+pub record ServesHeads (c : Call) (t : Taking) : Type 0 where
+  pub rows : List Row
+  pub type : TypeNo
+  pub bytes : List ℕ
+  pub work : work_of c.job t ≡ serves rows type bytes
 
 -- ---- what became of it
 
@@ -268,15 +278,27 @@ pub record VerifiesSome (c : Call) (t : Taking) : Type 0 where
   pub proof : WeighsProof c t
   pub told : IsSaidFront hash proof.rows proof.type proof.root proof.path proof.bytes c.before.output c.after.output
 
+-- every line of the script over heads was answered, and the replies were written, and behind them a line for each head
+pub record HeadsAll (c : Call) (t : Taking) (refused : Bool) : Type 0 where
+  pub script : ServesHeads c t
+  pub table : IsTable script.rows
+  pub all : HeadsDone (rules_of script.rows script.type) c.before.moment (lines_of script.bytes) c.after.moment c.before.output.written c.after.output.written refused
+
+-- the first lines of the script were answered, and a front of that text was written
+pub record HeadsSome (c : Call) (t : Taking) : Type 0 where
+  pub script : ServesHeads c t
+  pub table : IsTable script.rows
+  pub some : HeadsCut (rules_of script.rows script.type) c.before.moment (lines_of script.bytes) c.after.moment c.before.output.written c.after.output.written
+
 -- the text that was due was cut off
 abbrev pub IsCut : Call → Taking → Type 0
-IsCut c t = TellsFront c t ⊎ (AnswersSome c t ⊎ (ListsSome c t ⊎ (CreatesSome c t ⊎ (ShowsSome c t ⊎ (MatchesSome c t ⊎ VerifiesSome c t)))))
+IsCut c t = TellsFront c t ⊎ (AnswersSome c t ⊎ (ListsSome c t ⊎ (CreatesSome c t ⊎ (ShowsSome c t ⊎ (MatchesSome c t ⊎ (VerifiesSome c t ⊎ HeadsSome c t))))))
 
 -- what a status says
 abbrev pub Says : Call → Taking → Status → Type 0
 Says c t S.Done =
-    AnswersAll c t false ⊎ (ListsNames c t ⊎ (CreatesValue c t ⊎ (((json : List ℕ) × ShowsRoot c t (Some json)) ⊎ (MatchesTypes c t None ⊎ VerifiesPath c t false))))
-Says c t S.Refused = AnswersAll c t true ⊎ (ShowsRoot c t None ⊎ (((d : Differ) × MatchesTypes c t (Some d)) ⊎ VerifiesPath c t true))
+    AnswersAll c t false ⊎ (ListsNames c t ⊎ (CreatesValue c t ⊎ (((json : List ℕ) × ShowsRoot c t (Some json)) ⊎ (MatchesTypes c t None ⊎ (VerifiesPath c t false ⊎ HeadsAll c t false)))))
+Says c t S.Refused = AnswersAll c t true ⊎ (ShowsRoot c t None ⊎ (((d : Differ) × MatchesTypes c t (Some d)) ⊎ (VerifiesPath c t true ⊎ HeadsAll c t true)))
 Says c t S.Words = Tells c t F.Words
 Says c t S.Schema = (f : SchemaFault) × Tells c t (F.Schema f)
 Says c t S.Root = (id : BlockId) × (why : BlockWhy) × Tells c t (F.Root id why)

@@ -16,10 +16,10 @@ use Rattle.ild_run.specs.declared.open.Job.TheVariants as J
 use Rattle.ild_run.specs.declared.open.Task.{Task}
 use Rattle.ild_run.specs.declared.open.Task.TheVariants as P
 use Rattle.ild_run_open.specs.declared.start.Start.{Start}
-use Rattle.ild_run.specs.Words.{Job, checks, compares, runs, creates, shows, verifies, start_of_text}
+use Rattle.ild_run.specs.Words.{Job, checks, compares, runs, creates, shows, verifies, keeps, start_of_text}
 use Rattle.ild_data_root.specs.Root.{root_of_text}
 use Rattle.ild_script.specs.Path.{path_of}
-use Rattle.ild_run.specs.Work.{Work, Taking, ends, lists, matches, answers, makes, opens, weighs, types_work, job_work, IsTaking, TakesForRole}
+use Rattle.ild_run.specs.Work.{Work, Taking, ends, lists, matches, answers, makes, opens, weighs, serves, types_work, job_work, IsTaking, TakesForRole}
 
 -- the job that the program holds
 abbrev pub job_seen : Held → Job
@@ -29,6 +29,7 @@ job_seen (J.Run schema ty start script) = runs schema.now ty.now start script.no
 job_seen (J.New schema ty value) = creates schema.now ty.now value.now
 job_seen (J.Show schema ty root) = shows schema.now ty.now root.0
 job_seen (J.Verify schema ty root path proof) = verifies schema.now ty.now root.0 path proof.now
+job_seen (J.Heads schema ty script) = keeps schema.now ty.now script.now
 
 -- what words ask for; memory may be wanting to read a root or a path
 abbrev pub AsksFor : Option Job → Result (Option Held) Fault → Type 0
@@ -84,6 +85,7 @@ work_seen (P.Answer rows n start b) = answers rows n start b
 work_seen (P.Create rows n b) = makes rows n b
 work_seen (P.Show rows n id) = opens rows n id.0
 work_seen (P.Verify rows n id path b) = weighs rows n id.0 path.now b
+work_seen (P.Serve rows n b) = serves rows n b
 
 -- a value has a type of its table
 abbrev pub IsReady : Task → Type 0
@@ -93,6 +95,7 @@ IsReady (P.Answer rows n start b) = n.0 < length rows
 IsReady (P.Create rows n b) = n.0 < length rows
 IsReady (P.Show rows n id) = n.0 < length rows
 IsReady (P.Verify rows n id path b) = n.0 < length rows
+IsReady (P.Serve rows n b) = n.0 < length rows
 
 abbrev pub OpensAnswer : Supply → Job → Taking → Result Task Fault → Supply → Type 0
 OpensAnswer m job t (Ok task) n = job_work job t ≡ work_seen task

@@ -11,6 +11,7 @@ use Rattle.ild_run.specs.declared.fault.Role.{Role}
 -- What words ask for, with the names of its inputs: a schema is checked; on a value of a schema's type with this name, its second, which
 -- starts so, a script is run; a value of such a type is created; or the one that stands under a block id, its third, is shown. Or the types
 -- with one name, the third, of two schemas are compared. Or a proof is to say what stands at a path, the fourth, in the value under a block id.
+-- Or a script, its third, is run over named heads, under which values of such a type stand.
 pub data Job : Type 0 where
   checks : List ℕ → Job
   compares : List ℕ → List ℕ → List ℕ → Job
@@ -18,6 +19,7 @@ pub data Job : Type 0 where
   creates : List ℕ → List ℕ → List ℕ → Job
   shows : List ℕ → List ℕ → List ℕ → Job
   verifies : List ℕ → List ℕ → List ℕ → List (List ℕ) → List ℕ → Job
+  keeps : List ℕ → List ℕ → List ℕ → Job
 
 -- `new SCHEMA TYPE VALUE`, and `show SCHEMA TYPE ROOT`, where ROOT is the text of a block id
 abbrev pub typed_job : List ℕ → List ℕ → List ℕ → List ℕ → Option Job
@@ -29,6 +31,10 @@ typed_job verb schema ty last =
 -- `compat OLD NEW TYPE`, and these
 abbrev pub pair_job : List ℕ → List ℕ → List ℕ → List ℕ → Option Job
 pair_job verb first second last = if same_text verb (codes "compat") then Some (compares first second last) else typed_job verb first second last
+
+-- `heads SCHEMA TYPE SCRIPT`, and these
+abbrev pub heads_job : List ℕ → List ℕ → List ℕ → List ℕ → Option Job
+heads_job verb first second last = if same_text verb (codes "heads") then Some (keeps first second last) else pair_job verb first second last
 
 -- where a script starts: `-`, from the empty value, or ROOT
 abbrev pub start_of_text : List ℕ → Option Start
@@ -48,7 +54,7 @@ verify_job verb schema ty root path proof =
 -- `check SCHEMA`, and these
 abbrev pub job_in : List (List ℕ) → Option Job
 job_in (verb ∷ schema ∷ []) = if same_text verb (codes "check") then Some (checks schema) else None
-job_in (verb ∷ first ∷ second ∷ last ∷ []) = pair_job verb first second last
+job_in (verb ∷ first ∷ second ∷ last ∷ []) = heads_job verb first second last
 job_in (verb ∷ schema ∷ ty ∷ start ∷ script ∷ []) = run_job verb schema ty start script
 job_in (verb ∷ schema ∷ ty ∷ root ∷ path ∷ proof ∷ []) = verify_job verb schema ty root path proof
 job_in words = None
@@ -64,27 +70,32 @@ name_of Role.Schema (runs schema ty start script) = Some schema
 name_of Role.Schema (creates schema ty value) = Some schema
 name_of Role.Schema (shows schema ty id) = Some schema
 name_of Role.Schema (verifies schema ty id path proof) = Some schema
+name_of Role.Schema (keeps schema ty script) = Some schema
 name_of Role.Next (checks schema) = None
 name_of Role.Next (compares schema next ty) = Some next
 name_of Role.Next (runs schema ty start script) = None
 name_of Role.Next (creates schema ty value) = None
 name_of Role.Next (shows schema ty id) = None
 name_of Role.Next (verifies schema ty id path proof) = None
+name_of Role.Next (keeps schema ty script) = None
 name_of Role.Script (checks schema) = None
 name_of Role.Script (compares schema next ty) = None
 name_of Role.Script (runs schema ty start script) = Some script
 name_of Role.Script (creates schema ty value) = None
 name_of Role.Script (shows schema ty id) = None
 name_of Role.Script (verifies schema ty id path proof) = None
+name_of Role.Script (keeps schema ty script) = Some script
 name_of Role.Value (checks schema) = None
 name_of Role.Value (compares schema next ty) = None
 name_of Role.Value (runs schema ty start script) = None
 name_of Role.Value (creates schema ty value) = Some value
 name_of Role.Value (shows schema ty id) = None
 name_of Role.Value (verifies schema ty id path proof) = None
+name_of Role.Value (keeps schema ty script) = None
 name_of Role.Proof (checks schema) = None
 name_of Role.Proof (compares schema next ty) = None
 name_of Role.Proof (runs schema ty start script) = None
 name_of Role.Proof (creates schema ty value) = None
 name_of Role.Proof (shows schema ty id) = None
 name_of Role.Proof (verifies schema ty id path proof) = Some proof
+name_of Role.Proof (keeps schema ty script) = None

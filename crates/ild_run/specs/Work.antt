@@ -11,11 +11,12 @@ use Rattle.ild_run.specs.declared.fault.Fault.TheVariants as F
 use Rattle.ild_run.specs.declared.fault.Role.{Role}
 use Rattle.ild_run.specs.declared.fault.Trouble.TheVariants as T
 use Rattle.ild_run_open.specs.declared.start.Start.{Start}
-use Rattle.ild_run.specs.Words.{Job, checks, compares, runs, creates, shows, verifies, name_of}
+use Rattle.ild_run.specs.Words.{Job, checks, compares, runs, creates, shows, verifies, keeps, name_of}
 
 -- the call ends with a fault, lists names, answers the lines of a script on a value of a type of a table, which starts so, creates a value
 -- of such a type from bytes, or opens the one that stands under a block id; or it tells how a type of a table and one of a later table compare,
--- or what bytes say, as a proof, of a path in the value of a type under a block id
+-- or what bytes say, as a proof, of a path in the value of a type under a block id; or it answers the lines of a script over named heads, under
+-- which values of a type of a table stand
 pub data Work : Type 0 where
   ends : Fault → Work
   lists : List (List ℕ) → Work
@@ -24,6 +25,7 @@ pub data Work : Type 0 where
   makes : List Row → TypeNo → List ℕ → Work
   opens : List Row → TypeNo → List ℕ → Work
   weighs : List Row → TypeNo → List ℕ → List (List ℕ) → List ℕ → Work
+  serves : List Row → TypeNo → List ℕ → Work
 
 -- what is taken of the inputs in each role, or would be, and what the schema and a later one are compiled to, or none where memory is wanting
 -- for it
@@ -45,6 +47,11 @@ abbrev pub script_work : List Row → TypeNo → Start → Taken → Work
 script_work rows n start Taken.Absent = ends (F.Input Role.Script T.Absent)
 script_work rows n start Taken.Long = ends (F.Input Role.Script T.Long)
 script_work rows n start (Taken.Bytes b) = answers rows n start b
+
+abbrev pub heads_work : List Row → TypeNo → Taken → Work
+heads_work rows n Taken.Absent = ends (F.Input Role.Script T.Absent)
+heads_work rows n Taken.Long = ends (F.Input Role.Script T.Long)
+heads_work rows n (Taken.Bytes b) = serves rows n b
 
 -- so does a value's
 abbrev pub value_work : List Row → TypeNo → Taken → Work
@@ -75,6 +82,10 @@ abbrev pub verify_work : List Row → Option ℕ → List ℕ → List (List ℕ
 verify_work rows None id path proof = ends F.Words
 verify_work rows (Some n) id path proof = proof_work rows (record { 0 = n }) id path proof
 
+abbrev pub keep_work : List Row → Option ℕ → Taken → Work
+keep_work rows None script = ends F.Words
+keep_work rows (Some n) script = heads_work rows (record { 0 = n }) script
+
 -- a later schema is taken and compiled once the first is; then the type's name has to be one of both tables
 abbrev pub types_work : List Row → List Row → Option ℕ → Option ℕ → Work
 types_work rows others None found = ends F.Words
@@ -99,6 +110,7 @@ table_work (runs schema ty start script) rows t = run_work rows (number_named ty
 table_work (creates schema ty value) rows t = type_work rows (number_named ty rows) (t.input Role.Value)
 table_work (shows schema ty id) rows t = root_work rows (number_named ty rows) id
 table_work (verifies schema ty id path proof) rows t = verify_work rows (number_named ty rows) id path (t.input Role.Proof)
+table_work (keeps schema ty script) rows t = keep_work rows (number_named ty rows) (t.input Role.Script)
 
 -- after the schema's input comes its compilation
 abbrev pub compiled_work : Job → Option Verdict → Taking → Work
@@ -155,7 +167,7 @@ pub record IsTableOpen (t : Taking) : Type 0 where
   pub schema : t.input Role.Schema ≡ Taken.Bytes bytes
   pub verdict : t.verdict ≡ Some (table rows)
 
--- a job leads up to taking an input: each to its schema, and where that is accepted, a comparison to the later schema; where the type of its value is there, a run to the script, and that of a
+-- a job leads up to taking an input: each to its schema, and where that is accepted, a comparison to the later schema; where the type of its values is there, a run, of one value or over named heads, to the script, and that of a
 -- new value to the value, and what a proof is to say to the proof
 abbrev pub TakesForRole : Role → Job → Taking → Type 0
 TakesForRole Role.Schema job t = Unit {0}
@@ -165,24 +177,28 @@ TakesForRole Role.Next (runs schema ty start script) t = ⊥
 TakesForRole Role.Next (creates schema ty value) t = ⊥
 TakesForRole Role.Next (shows schema ty id) t = ⊥
 TakesForRole Role.Next (verifies schema ty id path proof) t = ⊥
+TakesForRole Role.Next (keeps schema ty script) t = ⊥
 TakesForRole Role.Script (checks schema) t = ⊥
 TakesForRole Role.Script (compares schema next ty) t = ⊥
 TakesForRole Role.Script (runs schema ty start script) t = IsTypeOpen ty t
 TakesForRole Role.Script (creates schema ty value) t = ⊥
 TakesForRole Role.Script (shows schema ty id) t = ⊥
 TakesForRole Role.Script (verifies schema ty id path proof) t = ⊥
+TakesForRole Role.Script (keeps schema ty script) t = IsTypeOpen ty t
 TakesForRole Role.Value (checks schema) t = ⊥
 TakesForRole Role.Value (compares schema next ty) t = ⊥
 TakesForRole Role.Value (runs schema ty start script) t = ⊥
 TakesForRole Role.Value (creates schema ty value) t = IsTypeOpen ty t
 TakesForRole Role.Value (shows schema ty id) t = ⊥
 TakesForRole Role.Value (verifies schema ty id path proof) t = ⊥
+TakesForRole Role.Value (keeps schema ty script) t = ⊥
 TakesForRole Role.Proof (checks schema) t = ⊥
 TakesForRole Role.Proof (compares schema next ty) t = ⊥
 TakesForRole Role.Proof (runs schema ty start script) t = ⊥
 TakesForRole Role.Proof (creates schema ty value) t = ⊥
 TakesForRole Role.Proof (shows schema ty id) t = ⊥
 TakesForRole Role.Proof (verifies schema ty id path proof) t = IsTypeOpen ty t
+TakesForRole Role.Proof (keeps schema ty script) t = ⊥
 
 abbrev pub Reaches : Role → Option Job → Taking → Type 0
 Reaches role None t = ⊥

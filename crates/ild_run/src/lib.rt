@@ -1,5 +1,5 @@
 //! The top call: a schema is checked or compared with a later one, a value of any of its types is created or shown, a script is run on
-//! one, it is told what a proof says of one, or a map is generated.
+//! one or over named heads, it is told what a proof says of one, or a map is generated.
 #![tactic(auto)]
 
 mod fault;
@@ -7,6 +7,7 @@ mod generator;
 mod laws;
 mod listed;
 mod open;
+mod serving;
 mod status;
 mod top;
 mod weighing;

@@ -1,7 +1,7 @@
 //! What comes before the work: the words, the inputs, and the schema.
 ghost use Rattle.std.specs.Prelude.{◌≡◌, ◌<◌, IfSome, Some, length, option_map};
 ghost use Rattle.ild_schema.specs.Names.{number_named};
-ghost use Rattle.ild_run.specs.Words.{job_of, name_of, pair_job, typed_job, run_job, verify_job, compares, creates, runs, shows, verifies};
+ghost use Rattle.ild_run.specs.Words.{job_of, name_of, heads_job, pair_job, typed_job, run_job, verify_job, compares, creates, keeps, runs, shows, verifies};
 ghost use Rattle.ild_run.specs.Opening.{job_seen, AsksFor, AsksPath, AsksRoot, AsksStart, CompileAnswer, TakesInput, TakesInputs, OpensBehind, TypesAnswer};
 
 use crate::fault::{Fault, Role, Trouble};
@@ -16,7 +16,7 @@ use std::alloc::Global;
 
 /// What the words ask for, with the names of its inputs: the schema's; for a run its type, where it starts and its script; for a new
 /// value its type and its input, and to show one its type and its root. To compare types: the two schemas', and the name of the type. For what a
-/// proof says: the type, the root, the path, and the input of the proof.
+/// proof says: the type, the root, the path, and the input of the proof. Over named heads: the type of their values, and the script.
 #[derive(Drop)]
 pub enum Job<'w> {
     Check(&'w str),
@@ -25,6 +25,7 @@ pub enum Job<'w> {
     New(&'w str, &'w str, &'w str),
     Show(&'w str, &'w str, BlockId),
     Verify(&'w str, &'w str, BlockId, Path, &'w str),
+    Heads(&'w str, &'w str, &'w str),
 }
 
 impl Job<'_> {
@@ -38,6 +39,7 @@ impl Job<'_> {
             Job::Run(schema, _, _, _) => schema,
             Job::New(schema, _, _) => schema,
             Job::Verify(schema, _, _, _, _) => schema,
+            Job::Heads(schema, _, _) => schema,
             Job::Show(schema, _, _) => schema,
         }
     }
@@ -137,6 +139,22 @@ fn pair_job<'w>(
     typed_job(alloc, verb, first, second, last)
 }
 
+/// What four words ask for: a script over named heads, or one of these.
+fn heads_job<'w>(
+    alloc: Global,
+    verb: &str,
+    first: &'w str,
+    second: &'w str,
+    last: &'w str,
+) -> Result<Option<Job<'w>>, Fault>
+    ensures { AsksFor (heads_job verb.now first.now second.now last.now) result }
+{
+    if verb == "heads" {
+        return Ok(Some(Job::Heads(first, second, last)));
+    }
+    pair_job(alloc, verb, first, second, last)
+}
+
 /// What six words ask for: that it is told what a proof says.
 fn verify_job<'w>(
     alloc: Global,
@@ -171,7 +189,7 @@ pub fn job_of(alloc: Global, words: &[String]) -> Result<Option<Job<'_>>, Fault>
     match words {
         [verb, schema] if verb.as_str() == "check" => Ok(Some(Job::Check(schema.as_str()))),
         [verb, first, second, last] => {
-            pair_job(
+            heads_job(
                 alloc,
                 verb.as_str(),
                 first.as_str(),
@@ -229,7 +247,8 @@ fn table_of(alloc: Global, bytes: &[u8]) -> Result<Accepted, Fault>
 }
 
 /// What is to be done, once the inputs are taken: the names that a schema declares are listed, a script is answered on a value of a type,
-/// or such a value is created or shown; or two types of two schemas are compared; or it is told what a proof says of a path in a value of a type.
+/// or such a value is created or shown; or two types of two schemas are compared; or it is told what a proof says of a path in a value of a type;
+/// or a script is answered over named heads, under which values of a type stand.
 #[derive(Drop)]
 pub enum Task<'j> {
     List(Accepted),
@@ -238,6 +257,7 @@ pub enum Task<'j> {
     Create(Accepted, TypeNo, Octets),
     Show(Accepted, TypeNo, BlockId),
     Verify(Accepted, TypeNo, BlockId, &'j Path, Octets),
+    Serve(Accepted, TypeNo, Octets),
 }
 
 /// The type that has a name, which is in the table.
@@ -348,6 +368,24 @@ fn plan_proof<'j, I: Inputs>(
     }
 }
 
+/// Takes the script over named heads, if the type of their values is there.
+fn plan_heads<'j, I: Inputs>(
+    inputs: &mut I,
+    schema: Accepted,
+    ty: &str,
+    script: &str,
+) -> Result<Task<'j>, Fault>
+    ensures { OpensBehind (I.supply inputs.old) schema (λ name. keeps name ty.now script.now) result (I.supply inputs.new) }
+{
+    let Some(number) = type_named(&schema, ty) else {
+        return Err(Fault::Words);
+    };
+    match take_input(inputs, Role::Script, script) {
+        Ok(bytes) => Ok(Task::Serve(schema, number, bytes)),
+        Err(fault) => Err(fault),
+    }
+}
+
 /// Takes the inputs in order, as far as the job leads, and says what is to be done.
 pub fn plan<'j, I: Inputs>(
     alloc: Global,
@@ -364,6 +402,7 @@ pub fn plan<'j, I: Inputs>(
         Job::Run(_, ty, start, script) => plan_script(inputs, schema, ty, *start, script),
         Job::New(_, ty, value) => plan_value(inputs, schema, ty, value),
         Job::Verify(_, ty, root, path, proof) => plan_proof(inputs, schema, ty, *root, path, proof),
+        Job::Heads(_, ty, script) => plan_heads(inputs, schema, ty, script),
         Job::Show(_, ty, root) => plan_root(inputs, schema, ty, *root),
     }
 }

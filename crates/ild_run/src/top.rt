@@ -7,8 +7,8 @@ ghost use Rattle.ild_run.specs.Opening.{job_seen, IsReady};
 ghost use Rattle.ild_run.specs.Fault.{cut_status};
 ghost use Rattle.ild_run.specs.Cut.{ToldAs};
 ghost use Rattle.ild_run.specs.Listed.{ListedAs};
-ghost use Rattle.ild_run.specs.inside.Carried.{EndsTask};
 ghost use Rattle.ild_run.specs.inside.Matched.{MatchedAs};
+ghost use Rattle.ild_run.specs.inside.Carried.{CarriedAs};
 ghost use Rattle.ild_run.specs.inside.Made.{MadeAs, made_fault};
 ghost use Rattle.ild_run.specs.inside.Answered.{AnsweredAs, start_fault};
 ghost use Rattle.ild_run.specs.Shown.{Replied, ShownAs};
@@ -21,6 +21,7 @@ use crate::fault::{Fault, write_fault};
 use crate::generator::run_generator;
 use crate::listed::names_json;
 use crate::open::{Job, Task, job_of, plan};
+use crate::serving::serve;
 use crate::status::Status;
 use crate::weighing::weigh;
 use ild_data::{BlockId, Sha256Keys, Txt};
@@ -192,15 +193,15 @@ fn answer<K: Store, W: Sink>(
     }
 }
 
-/// Does what a task is, and answers how it ended.
+/// Does what is to be done once the inputs are taken, and answers how it ended.
 fn carry_task<K: Store, W: Sink>(
     alloc: Global,
     task: &Task<'_>,
     store: &mut K,
     out: &mut W,
 ) -> Status
-    requires { IsReady task.now }
-    ensures ended { EndsTask task.now (K.moment store.old) (W.output out.old) result (K.moment store.new) (W.output out.new) }
+    requires ready { IsReady task.now }
+    ensures carried { CarriedAs task.now (K.moment store.old) (W.output out.old) result (K.moment store.new) (W.output out.new) }
     ensures later { Later (K.moment store.old) (K.moment store.new) }
     ensures sink { (W.output out.old).faults ≤ (W.output out.new).faults }
 {
@@ -217,6 +218,9 @@ fn carry_task<K: Store, W: Sink>(
         }
         Task::Verify(schema, ty, root, path, proof) => {
             weigh(alloc, schema, *ty, root, path, proof.as_slice(), out)
+        }
+        Task::Serve(schema, ty, script) => {
+            serve(alloc, schema, *ty, script.as_slice(), store, out)
         }
         Task::Show(schema, ty, root) => present(alloc, schema, *ty, root, store, out),
     }
@@ -235,10 +239,11 @@ fn carry_job<I: Inputs, K: Store, W: Sink>(
     ensures later { Later (K.moment store.old) (K.moment store.new) }
     ensures sink { (W.output out.old).faults ≤ (W.output out.new).faults }
 {
-    match plan(alloc, inputs, job) {
-        Ok(task) => carry_task(alloc, &task, store, out),
-        Err(fault) => tell(alloc, fault, out),
-    }
+    let task = match plan(alloc, inputs, job) {
+        Ok(task) => task,
+        Err(fault) => return tell(alloc, fault, out),
+    };
+    carry_task(alloc, &task, store, out)
 }
 
 /// Does what the words say, and answers how it ended.
@@ -272,7 +277,9 @@ fn carry_out<I: Inputs, K: Store, W: Sink>(
 /// the types with one name of two schemas are compared: `ok true` tells that all that stands as a value of the first stands as one of the
 /// other, in the same blocks and with the same shown form; or a pair of their types is told, and a rule that fails for it. Under `verify`
 /// no store is asked: what a list of blocks says of a path in the value of a type under a root is told, a part or that there is none; or the list
-/// is refused, where it says nothing. Under `gen`
+/// is refused, where it says nothing. Under `heads` each line of the script is an event over named heads and sessions, and its outcome is written;
+/// a head's root is reached from its first one by the commits of its log, each line of which is answered as the same command is on the plain value;
+/// and a line for each head is written at the end. Under `gen`
 /// a map is generated, and its counts, the number of its entries and its root are written, which are those of a plain map.
 pub fn run<I: Inputs, K: Store, W: Sink>(
     alloc: Global,

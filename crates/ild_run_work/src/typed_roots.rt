@@ -20,7 +20,7 @@ pub struct TypedRoots<'s, 'k, K> {
 impl<'s, 'k, K: Store> TypedRoots<'s, 'k, K> {
     ghost use Rattle.std.specs.Prelude.{◌≡◌};
     ghost use Rattle.ild_run_work.specs.Rules.{rules_of};
-    ghost use Rattle.ild_run_work.specs.Held.{root_rules};
+    ghost use Rattle.ild_run_work.specs.Held.{moment_in, root_rules};
 
     /// The roots of values of this type in this store.
     pub fn of(
@@ -31,7 +31,7 @@ impl<'s, 'k, K: Store> TypedRoots<'s, 'k, K> {
     ) -> TypedRoots<'s, 'k, K>
         requires { ty.0 < length acc.now }
         ensures rules { root_rules result ≡ record { rules = rules_of acc.now ty; store = store.entry.ghost_name } }
-        ensures same { result.store.now ≡ store.old }
+        ensures same { moment_in K.moment result ≡ K.moment store.old }
     {
         acc.recall();
         TypedRoots {

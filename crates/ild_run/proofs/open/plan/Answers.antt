@@ -57,6 +57,13 @@ returns-in-Verify g c =
     let compiled = rw c.as_slice.ensures.same at c.in_ok-schema.ensures in
     rw c.in-Verify.is (c.plan_proof.ensures m c.in-Verify.field-0.now c.in_ok-bytes.bytes taken compiled c.in_ok-bytes.ensures.after)
 
+pub returns-in-Heads : goal.returns-in-Heads
+returns-in-Heads g c =
+    let m = g.I.Inputs.supply c.args.inputs.now in
+    let taken = by_name m c.in-Heads.field-0.now c.schema.result.now c.in_ok-bytes.bytes (rw c.in-Heads.is at c.schema.ensures) c.in_ok-bytes.ensures.answer in
+    let compiled = rw c.as_slice.ensures.same at c.in_ok-schema.ensures in
+    rw c.in-Heads.is (c.plan_heads.ensures m c.in-Heads.field-0.now c.in_ok-bytes.bytes taken compiled c.in_ok-bytes.ensures.after)
+
 pub returns : goal.returns
 returns g c =
     let m = g.I.Inputs.supply c.args.inputs.now in

@@ -1,20 +1,33 @@
 use Rattle.std.proofs.Common.{refl}
 use Rattle.ild_run.proofs.top.carry_task.Goals as goal
 
-pub returns-in-List-clause-ended : goal.returns-in-List-clause-ended
-returns-in-List-clause-ended g c = rw c.in-List.is (rw c.names.ensures at c.list.ensures, refl)
+pub returns-in-List-clause-carried : goal.returns-in-List-clause-carried
+returns-in-List-clause-carried g c =
+    let listed = rw c.names.ensures at c.list.ensures in
+    rw c.in-List.is (listed, refl)
 
-pub returns-in-Compare-clause-ended : goal.returns-in-Compare-clause-ended
-returns-in-Compare-clause-ended g c = rw c.in-Compare.is (c.match_types.ensures, refl)
+pub returns-in-Compare-clause-carried : goal.returns-in-Compare-clause-carried
+returns-in-Compare-clause-carried g c = rw c.in-Compare.is (c.match_types.ensures, refl)
 
-pub returns-in-Answer-clause-ended : goal.returns-in-Answer-clause-ended
-returns-in-Answer-clause-ended g c = rw c.in-Answer.is (rw c.as_slice.ensures.same at c.answer.ensures)
+pub returns-in-Answer-clause-carried : goal.returns-in-Answer-clause-carried
+returns-in-Answer-clause-carried g c =
+    let answered = rw c.as_slice.ensures.same at c.answer.ensures in
+    rw c.in-Answer.is answered
 
-pub returns-in-Create-clause-ended : goal.returns-in-Create-clause-ended
-returns-in-Create-clause-ended g c = rw c.in-Create.is (rw c.as_slice-in-Create.ensures.same at c.make.ensures)
+pub returns-in-Create-clause-carried : goal.returns-in-Create-clause-carried
+returns-in-Create-clause-carried g c =
+    let made = rw c.as_slice-in-Create.ensures.same at c.make.ensures in
+    rw c.in-Create.is made
 
-pub returns-in-Verify-clause-ended : goal.returns-in-Verify-clause-ended
-returns-in-Verify-clause-ended g c = rw c.in-Verify.is (rw c.as_slice-in-Verify.ensures.same at c.weigh.ensures, refl)
+pub returns-in-Verify-clause-carried : goal.returns-in-Verify-clause-carried
+returns-in-Verify-clause-carried g c =
+    let weighed = rw c.as_slice-in-Verify.ensures.same at c.weigh.ensures in
+    rw c.in-Verify.is (weighed, refl)
 
-pub returns-in-Show-clause-ended : goal.returns-in-Show-clause-ended
-returns-in-Show-clause-ended g c = rw c.in-Show.is c.present.ensures
+pub returns-in-Serve-clause-carried : goal.returns-in-Serve-clause-carried
+returns-in-Serve-clause-carried g c =
+    let headed = rw c.as_slice-in-Serve.ensures.same at c.serve.ensures in
+    rw c.in-Serve.is headed
+
+pub returns-in-Show-clause-carried : goal.returns-in-Show-clause-carried
+returns-in-Show-clause-carried g c = rw c.in-Show.is c.present.ensures

@@ -8,6 +8,6 @@ returns g c =
     let w = c.of-work.result in
     let x = c.run_lines.new.work in
     heads_run root_rules (moment_in g.K.Store.moment) c.args.script.now w x (g.W.Sink.output c.args.out.now) (g.W.Sink.output c.run_lines.new.out) c.run_lines.ensures.faults _ _ _
-    (ap (λ r. r.rules) c.of-work.ensures.rules) (ap g.K.Store.moment c.of-work.ensures.same)
+    (ap (λ r. r.rules) c.of-work.ensures.rules) c.of-work.ensures.same
     (sym (ap g.K.Store.moment (c.store-1.given.1 (sym (ap (λ r. r.store) (c.run_lines.ensures.same ∙ c.of-work.ensures.rules))))))
     c.run_lines.result c.run_lines.ensures.done c.run_lines.ensures.part c.run_lines.ensures.sink
