@@ -26,7 +26,7 @@ use Rattle.ild_typed.proofs.TreeKept.{one_stands}
 use Rattle.ild_typed.specs.Blocks.{nodes}
 use Rattle.ild_typed.specs.Schema.{IsSchema}
 use Rattle.ild_typed.specs.Stands.{IsFrame, Stands, bare, root_id}
-use Rattle.ild_named_root.specs.Names.{AreDocData, Failed, HasBeneath, HasNamed, HasRoom, InOrder, NameAnswer, Names, NamesData, OfStanding, WasRead, new_blocks, root_block}
+use Rattle.ild_named_root.specs.Names.{AreDocData, AreFit, Failed, HasBeneath, HasNamed, HasRoom, InOrder, NameAnswer, Names, NamesData, OfStanding, WasRead, new_blocks, root_block}
 use Rattle.ild_named_root.specs.declared.fault.NameFault.{NameFault}
 use Rattle.ild_named_root.specs.declared.fault.NameFault.TheVariants as F
 use Rattle.ild_named_root.specs.inside.Loading.{BeneathAnswer, LoadsBeneath}
@@ -186,6 +186,12 @@ module _ (rows : List Row) (schema : IsSchema rows) (h : List ℕ → List ℕ) 
       keeps_told held now told then later =
           subst (λ (o : Option (List (List ℕ))). BothTold (Some held) o Keeps) then (subst (λ (o : Option (List (List ℕ))). BothTold o n.blocks Keeps) (x.only.blocks ∙ told) later.keeps)
 
+      are_fit : (t : Data) → AreDocData rows ty b t → Later k n → AreFit h rows ty b name source t m n
+      are_fit t doc later =
+          let made = makes t doc.block in
+          let found = x.each t doc in
+          record { read = was_read t n x.only later found; room = room_where t doc.block x.only found; short = (made.text_short, (made.root_short, tt)) }
+
       has_named : (t : Data) → AreDocData rows ty b t → (id : List ℕ) → id ≡ id_of root → Puts (Ok tt) → HasNamed h rows ty b name source t m id n
       has_named t doc id is y =
           let made = makes t doc.block in
@@ -193,9 +199,9 @@ module _ (rows : List Row) (schema : IsSchema rows) (h : List ℕ → List ℕ) 
           let held : Holds n (new_blocks name source t) = subst (λ (bs : List (List ℕ)). Holds n bs) (same_blocks t made) y.answer in
           let root_is : id ≡ root_id (named name source) t = is ∙ ap id_of made.root_is in
           record {
+            fit = are_fit t doc y.later;
             naming = record { name_text = name_text; source_text = source_text; short = made.text_short };
             root = root_is;
-            read = was_read t n x.only y.later found;
             held = held;
             stands = λ was v told st now then.
                 stands_named t doc.block was v st name source now (keeps_told was now told then y.later) (subst (λ (o : Option (List (List ℕ))). IfTold o (AreHeld (new_blocks name source t))) then held)
@@ -204,7 +210,9 @@ module _ (rows : List Row) (schema : IsSchema rows) (h : List ℕ → List ℕ) 
 
       put_fault_answer : (t : Data) → AreDocData rows ty b t → (e : NameFault) → Puts (Err e) → PutAnswer k (text ∷ root ∷ []) (Err e) n → NameAnswer h rows ty b name source t m (Err e) n
       put_fault_answer t doc F.Store y z = rose_later m.faults k.faults n.faults x.only.later.faults z
-      put_fault_answer t doc (F.Clash id kept new) y z = subst (λ (bs : List (List ℕ)). PutAnswer k bs (Err (F.Clash id kept new)) n) (same_blocks t (makes t doc.block)) z
+      put_fault_answer t doc (F.Clash id kept new) y z =
+          let w = subst (λ (bs : List (List ℕ)). PutAnswer k bs (Err (F.Clash id kept new)) n) (same_blocks t (makes t doc.block)) z in
+          record { fit = are_fit t doc y.later; among = w.0; clash = w.1 }
       put_fault_answer t doc F.Memory y z = tt
       put_fault_answer t doc F.Depth y z = absurd z
       put_fault_answer t doc F.Size y z = absurd z

@@ -1,5 +1,6 @@
 -- What giving a value a root that names its schema answers, and what it leaves of the store.
 use Rattle.std.specs.Prelude.{◌≡◌, ◌⊎◌, ℕ, ◌+◌, ◌<◌, ◌≤◌, List, [], ◌∷◌, length, Some, Result, Ok, Err, IfErr}
+use Rattle.std.specs.List.{AllByRecursion}
 use Rattle.ild_cbor.specs.Block.{IsBlockOf}
 use Rattle.ild_cbor.specs.declared.why.BlockWhy.{BlockWhy}
 use Rattle.ild_data.specs.Data.{Data}
@@ -94,11 +95,23 @@ module _ (h : List ℕ → List ℕ) (rows : List Row) (ty : TypeNo) (b : List �
       pub room : OfStanding m (λ held v. HasRoom rows ty v)
       pub long : (longest_block < length (schema_block source)) ⊎ (longest_block < length (root_block name source t))
 
+    -- neither is, and the value nests at most 95 levels
+    pub record AreFit (t : Data) (m n : Moment) : Type 0 where
+      pub read : WasRead h rows ty t m n
+      pub room : OfStanding m (λ held v. HasRoom rows ty v)
+      pub short : AllByRecursion (λ block. length block ≤ longest_block) (new_blocks name source t)
+
+    -- other bytes are kept under the id of one of them
+    pub record HasClash (t : Data) (m : Moment) (id kept new : List ℕ) (n : Moment) : Type 0 where
+      pub fit : AreFit t m n
+      pub among : IsIn new (new_blocks name source t)
+      pub clash : Clashes n id kept new
+
     -- both are held, and a value that stood stands beneath the root
     pub record HasNamed (t : Data) (m : Moment) (id : List ℕ) (n : Moment) : Type 0 where
+      pub fit : AreFit t m n
       pub naming : AreNaming name source
       pub root : id ≡ root_id (named name source) t
-      pub read : WasRead h rows ty t m n
       pub held : Holds n (new_blocks name source t)
       pub stands : OfStanding m (λ held v. (now : List (List ℕ)) → n.blocks ≡ Some now → Stands (named name source) (block_at now) h rows ty id v)
 
@@ -107,7 +120,7 @@ module _ (h : List ℕ → List ℕ) (rows : List Row) (ty : TypeNo) (b : List �
     NameAnswer t m (Err F.Depth) n = IsDeep t m n
     NameAnswer t m (Err F.Size) n = IsLong t m n
     NameAnswer t m (Err F.Store) n = Rose m.faults n.faults
-    NameAnswer t m (Err (F.Clash id kept new)) n = IsIn new (new_blocks name source t) × Clashes n id.0 kept new
+    NameAnswer t m (Err (F.Clash id kept new)) n = HasClash t m id.0 kept new n
     NameAnswer t m (Err (F.Block id why)) n = IsBroken t m id.0 why n
     NameAnswer t m (Err F.Memory) n = Unit {0}
 

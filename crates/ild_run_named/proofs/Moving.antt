@@ -110,7 +110,8 @@ module _ (rows : List Row) (schema : IsSchema rows) (h : List ℕ → List ℕ) 
     moved_value (Err N.Size) held v told st x = (x.answer.room held v (reads.blocks ∙ told) (in_block held v told st), x.answer.long)
     moved_value (Err (N.Block id why)) held v told st x = x.answer.none held v (reads.blocks ∙ told) (in_block held v told st)
     moved_value (Err N.Store) held v told st x = tt
-    moved_value (Err (N.Clash id kept new)) held v told st x = (kept, new, x.answer.0, x.answer.1)
+    moved_value (Err (N.Clash id kept new)) held v told st x =
+        (x.answer.fit.room held v (reads.blocks ∙ told) (in_block held v told st), (kept, new, x.answer.among, x.answer.clash))
     moved_value (Err N.Memory) held v told st x = tt
 
     pub moved : (r : Result BlockId NameFault) → Names h rows ty b name source k r n → Migrates h rows ty root name source m (answer_of r) n

@@ -24,14 +24,14 @@ use Rattle.ild_run_named.specs.declared.migrating.MigrateFault.TheVariants as F
 module _ (h : List ℕ → List ℕ) (rows : List Row) (ty : TypeNo) (root name source : List ℕ) where
   -- ---- of a value that stands under the bare root, where the store tells what it holds
 
-  -- it stands beneath the new root, or it nests too deep, or one of the two blocks is too long, or they collide with one that is kept
+  -- it stands beneath the new root, or it nests too deep; or else one of the two blocks is too long, or other bytes are kept under its id
   abbrev pub OfValue : Moment → (held : List (List ℕ)) (v : Value) → Stands bare (block_at held) h rows ty root v → Result BlockId MigrateFault → Moment → Type 0
   OfValue m held v st (Ok id) n = (now : List (List ℕ)) → n.blocks ≡ Some now → Stands (named name source) (block_at now) h rows ty id.0 v
   OfValue m held v st (Err F.Depth) n = HasRoom rows ty v → ⊥
   OfValue m held v st (Err F.Size) n = HasRoom rows ty v × ((longest_block < length (schema_block source)) ⊎ (longest_block < length (root_block name source st.tree)))
   OfValue m held v st (Err (F.Block id why)) n = ⊥
   OfValue m held v st (Err F.Store) n = Unit {0}
-  OfValue m held v st (Err (F.Clash id)) n = (kept new : List ℕ) × IsIn new (new_blocks name source st.tree) × Clashes n id.0 kept new
+  OfValue m held v st (Err (F.Clash id)) n = HasRoom rows ty v × ((kept new : List ℕ) × IsIn new (new_blocks name source st.tree) × Clashes n id.0 kept new)
   OfValue m held v st (Err F.Memory) n = Unit {0}
 
   pub record IsOfValue (m : Moment) (held : List (List ℕ)) (v : Value) (st : Stands bare (block_at held) h rows ty root v) (result : Result BlockId MigrateFault) (n : Moment) : Type 0 where
