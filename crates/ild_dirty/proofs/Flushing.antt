@@ -13,17 +13,17 @@ use Rattle.ild_edges.specs.Gained.{AreHeld, CameFrom}
 use Rattle.ild_edges.specs.Store.{Moment, Later, Keeps, block_at}
 use Rattle.ild_edges.proofs.Held.{block_at_id}
 use Rattle.ild_edges.specs.Among.{IsIn}
-use Rattle.ild_edges.proofs.Among.{IsIn-left, IsIn-right, IsIn-contains, IsIn-of}
+use Rattle.ild_edges.proofs.Among.{IsIn-at, IsIn-left, IsIn-right, IsIn-contains, IsIn-of}
 use Rattle.ild_dirty.specs.Own.{index_at}
 use Rattle.ild_dirty.specs.Beneath.{Place, Places, place, no_places, beside, block_of, place_kind, IsTree, AreTrees, HasPlace, HasPlaceBelow, IsTreeAt, AgreesWith, blocks_in, blocks_below, places_in, places_below}
 use Rattle.ild_dirty.specs.inside.Walk.{own_block, Leads, LeadOn, is_in, is_done, are_done, is_ready, HasReady, Follows, AreStuck, IsPlan}
-use Rattle.ild_dirty.specs.Flush.{PutsAnswer, PutsAll, StopsAfter, AreCarried, IsWholeIn, CameWholeIn, FlushAnswer, Flushes}
+use Rattle.ild_dirty.specs.Flush.{Asks, PutsAnswer, PutsAll, StopsAfter, AreCarried, ClashAnswer, IsWholeIn, CameWholeIn, FlushAnswer, Flushes}
 use Rattle.ild_dirty.specs.declared.fault.FlushFault.{FlushFault}
 use Rattle.ild_dirty.specs.declared.fault.FlushFault.TheVariants as F
 use Rattle.ild_dirty.proofs.Indexed.{block_at-none}
 use Rattle.ild_dirty.proofs.Walking.{index_found, top_is, agrees_left, agrees_right}
 use Rattle.ild_dirty.proofs.Counting.{fits_in}
-use Rattle.ild_dirty.proofs.Puts.{told-map, told-both, held-push, held-keeps}
+use Rattle.ild_dirty.proofs.Puts.{told-map, told-both, held-push, held-keeps, kept_held}
 
 -- ---- lists
 
@@ -225,6 +225,31 @@ answered own bs t m (Ok u) n later inside all answer = told-both m.blocks n.bloc
 answered own bs t m (Err F.Store) n later inside all answer = answer
 answered own bs t m (Err (F.Clash id kept new)) n later inside all answer = (inside new answer.0, answer.1, answer.2, answer.3)
 answered own bs t m (Err F.Memory) n later inside all answer = tt
+
+-- ---- over every store
+
+-- each block of the order is one of the batch's own
+ordered_own : (own : List (List ℕ)) (children : ℕ → List ℕ → List (List ℕ × ℕ)) (id : List ℕ) (kind : ℕ) (order : List ℕ) → IsPlan own children id kind order → (b : List ℕ) → IsIn b (map (own_block own) order) → IsIn b own
+ordered_own own children id kind order plan = ordered_in own children plan.spots [] order own plan.follows (λ i k is. IsIn-at own i (own_block own i) [] (plan.reached.inside (i, k) is).within refl)
+
+clashed : (own bs : List (List ℕ)) (m : Moment) (result : Result (Unit {0}) FlushFault) (n : Moment) → ((b : List ℕ) → IsIn b bs → IsIn b own) → PutsAnswer m bs result n → ClashAnswer own result n
+clashed own bs m (Ok u) n inside answer = tt
+clashed own bs m (Err F.Store) n inside answer = tt
+clashed own bs m (Err (F.Clash id kept new)) n inside answer =
+    record { kept = kept; new = new; held = kept_held n.blocks kept (id_of new) answer.3; among = IsIn-contains new own (inside new answer.0); collide = answer.2 }
+clashed own bs m (Err F.Memory) n inside answer = tt
+
+pub asked : (own : List (List ℕ)) (children : ℕ → List ℕ → List (List ℕ × ℕ)) (id : List ℕ) (kind : ℕ) (order : List ℕ) (m : Moment) (result : Result (Unit {0}) FlushFault) (n : Moment) → IsPlan own children id kind order → PutsAll m (map (own_block own) order) result n
+    → Asks own m result n
+asked own children id kind order m result n plan puts = record {
+  later = puts.later;
+  gets = puts.gets;
+  puts = let most = plan.most in let few = puts.puts in omega (arith, most, few, length-map order (own_block own));
+  failed = λ e. subst (λ (r : Result (Unit {0}) FlushFault). PutsAnswer m (map (own_block own) order) r n) e puts.answer;
+  clashed = clashed own (map (own_block own) order) m result n (ordered_own own children id kind order plan) puts.answer;
+}
+
+-- ---- of a tree
 
 -- what puts in a plan's order leave
 pub flushed : (own : List (List ℕ)) (children : ℕ → List ℕ → List (List ℕ × ℕ)) (id : List ℕ) (kind : ℕ) (order : List ℕ) (m : Moment) (result : Result (Unit {0}) FlushFault) (n : Moment) → IsPlan own children id kind order → PutsAll m (map (own_block own) order) result n

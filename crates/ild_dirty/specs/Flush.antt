@@ -4,7 +4,7 @@ use Rattle.std.specs.List.{AllByRecursion}
 use Rattle.ild_data.specs.Spell.{id_of}
 use Rattle.ild_edges.specs.Collide.{Collide}
 use Rattle.ild_edges.specs.Count.{Rose}
-use Rattle.ild_edges.specs.Gained.{AreHeld, CameFrom}
+use Rattle.ild_edges.specs.Gained.{AreHeld, CameFrom, Collides}
 use Rattle.ild_edges.specs.Store.{Moment, Later, block_at}
 use Rattle.ild_edges.specs.Told.{IfTold, BothTold}
 use Rattle.ild_edges.specs.Among.{IsIn}
@@ -77,9 +77,15 @@ pub record Flushes (own : List (List ℕ)) (children : ℕ → List ℕ → List
   -- each block once at most, however often it stands in the tree
   pub puts : (blocks : List (List ℕ)) → AreAmong (blocks_in t) blocks → n.puts ≤ m.puts + length blocks
 
+-- where a block clashes, one of the batch's own collides with one that is held
+abbrev pub ClashAnswer : List (List ℕ) → Result (Unit {0}) FlushFault → Moment → Type 0
+ClashAnswer own (Err (F.Clash id kept new)) n = Collides n own
+ClashAnswer own result n = Unit {0}
+
 -- over every store
 pub record Asks (own : List (List ℕ)) (m : Moment) (result : Result (Unit {0}) FlushFault) (n : Moment) : Type 0 where
   pub later : Later m n
   pub gets : n.gets ≡ m.gets
   pub puts : n.puts ≤ m.puts + length own
   pub failed : result ≡ Err F.Store → Rose m.faults n.faults
+  pub clashed : ClashAnswer own result n

@@ -84,7 +84,7 @@ module _ (seed count : ℕ) (c : Call) (status : Status) (ends : EndsGeneration 
   fault_by : (f : GenerateFault) → Generates seed count c.before.moment (Err f) c.after.moment → ToldAs (generate_fault f) c.before.output status c.after.output → Plainly
   fault_by (G.Block id why) has line = absurd (has.told held tests told are).answer
   fault_by G.Store has line = absurd (lets.store (has.failed refl))
-  fault_by (G.Clash id) has line = let hit = (has.told held tests told are).answer.0 in absurd (lets.apart hit.kept hit.new hit.among hit.held hit.collide)
+  fault_by (G.Clash id) has line = let hit = (has.told held tests told are).answer in absurd (lets.apart hit.kept hit.new hit.among hit.held hit.collide)
   fault_by G.Memory has line = memory_by line.told
 
   plain_by : (result : Result Summary GenerateFault) → Generates seed count c.before.moment result c.after.moment → GenerationTold c.before.output result status c.after.output → Plainly

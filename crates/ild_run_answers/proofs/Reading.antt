@@ -9,7 +9,6 @@ use Rattle.ild_data.proofs.Options.{some_there}
 use Rattle.ild_data.specs.Data.{Data}
 use Rattle.ild_data.specs.Limits.{deepest}
 use Rattle.ild_data.specs.Spell.{id_of}
-use Rattle.ild_data.specs.declared.id.BlockId.{BlockId}
 use Rattle.ild_edges.specs.Store.{Moment, block_at}
 use Rattle.ild_schema.specs.Slots.{plainly}
 use Rattle.ild_schema.specs.Value.{Value}
@@ -39,7 +38,7 @@ use Rattle.ild_view_doc.specs.declared.doc.Doc.{Doc}
 use Rattle.ild_run_follow.specs.Tells.{ViewIsHeld as IsAtView}
 use Rattle.ild_run_follow.specs.declared.kind.Tell.{Tell}
 use Rattle.ild_run_reads.specs.Laws.{ReadsAreReplies}
-use Rattle.ild_run_reads.specs.Replies.{IsBlamed, RepliesAs, asked}
+use Rattle.ild_run_reads.specs.Replies.{IsBlamed, IsOfRead, RepliesAs, asked}
 use Rattle.ild_run_standing.specs.Answers.{AnswersAs}
 use Rattle.ild_run_standing.specs.Blame.{IsBroken}
 use Rattle.ild_run_standing.specs.Laws.{HeldAreStanding}
@@ -98,17 +97,18 @@ module _ (trees : ValuesAreTrees) (roots : StandingAreHeld) (standing : HeldAreS
             (subst (λ (rows : List Row). HasBrokenBlock h rows m.blocks m.lacks n.lacks (id_of at) deepest (slot_of view) r.root.tree x.id x.why) table x.broken));
       })
 
-  pub read_answers : (front : (f : Value) → IsRootBlock (table_in d) (type_in d) (block_in d) f → IsView view f) (at : List ℕ) → at ≡ block_in d → (path : List (List ℕ)) (tell : Tell) (m n : Moment) (reply : Reply) → RepliesAs h view path tell m reply n → ((id : BlockId) → reply ≡ R.Root id → ⊥) → Blames at m reply n
+  pub read_answers : (front : (f : Value) → IsRootBlock (table_in d) (type_in d) (block_in d) f → IsView view f) (at : List ℕ) → at ≡ block_in d → (path : List (List ℕ)) (tell : Tell) (m n : Moment) (reply : Reply) → RepliesAs h view path tell m reply n → IsOfRead reply → Blames at m reply n
       → AnswersAs h d d (to_tell (asked tell) path) m (Some reply) n
-  read_answers front at same path tell m n reply r rootless blames = record {
+  read_answers front at same path tell m n reply r own blames = record {
     later = r.only.later;
     table = refl;
     type = refl;
     kept = λ refusal is. refl;
     told = λ t p is. refl;
-    rooted = λ id told. absurd (rootless id (same_Some reply (R.Root id) told));
+    rooted = λ id told. absurd (subst (λ (x : Reply). IsOfRead x) (same_Some reply (R.Root id) told) own);
     failed = λ is. r.failed (same_Some reply (R.No N.Store) is);
     blamed = λ is. blamed_here front at same m n reply blames (same_Some reply (R.No N.Block) is);
+    clashed = λ is. absurd (subst (λ (x : Reply). IsOfRead x) (same_Some reply (R.No N.Clash) is) own);
     leads = λ tests v are x.
         let at = at_view tests m v x in record {
           next = v;

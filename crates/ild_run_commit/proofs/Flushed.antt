@@ -21,6 +21,7 @@ commits_at : CarriedAgree → FlushesCommit → (d : Doc) (kind : ℕ) (children
 commits_at agree commit d kind children root own m n result is each asks trees = record {
   later = asks.later;
   failed = asks.failed;
+  clashed = asks.clashed;
   replies = λ tests v kept owed are at most c.
       let x : HasTree id_of d kind children v at.tree = trees v at.tree at.storable in
       let of : IsTreeOf (setting_of id_of d tests) v x.home = record { tree = at.tree; represented = at.storable.tree; places = x.places } in

@@ -1,5 +1,5 @@
 -- A read or an edit inside a batch.
-use Rattle.std.proofs.Common.{◌≡◌, ◌≢◌, ℕ, ◌-◌, ◌^◌, ◌≤◌, List, ◌++◌, length, Option, Some, None, refl, sym, ap, ◌∙◌, subst}
+use Rattle.std.proofs.Common.{◌≡◌, ◌≢◌, inr, ℕ, ◌-◌, ◌^◌, ◌≤◌, List, ◌++◌, length, Option, Some, None, refl, sym, ap, ◌∙◌, subst}
 use Rattle.std.specs.Prelude.{option_map}
 use Rattle.std.proofs.lemmas.Option.{same_Some}
 use Rattle.ild_script_batch.proofs.Inside.{told_over}
@@ -14,12 +14,14 @@ use Rattle.ild_script.specs.declared.reply.Reply.{Reply}
 use Rattle.ild_script.specs.declared.reply.Reply.TheVariants as R
 use Rattle.ild_path_edits.specs.Judged.{Tests, AreTests}
 use Rattle.ild_script_batch.specs.Inside.{AnswersInside, CarriedOverBatch, IsAnsweredInside, IsLaterBeneath, IsOfStore, LaterBeneath, batching, begun_at, told_inside}
+use Rattle.ild_script_session.specs.Batch.{beside}
 use Rattle.ild_script_session.specs.Session.{Stage}
 use Rattle.ild_script_meaning.specs.Ask.{Ask}
 use Rattle.ild_script_meaning.specs.Lines.{Setting, due}
 use Rattle.ild_view_doc.specs.Docs.{table_in}
 use Rattle.ild_view_doc.specs.declared.doc.Doc.{Doc}
 use Rattle.ild_run_standing.specs.Answers.{AnswersAs, LeadsOn}
+use Rattle.ild_run_standing.specs.Blame.{HasClash}
 use Rattle.ild_run_standing.specs.Standing.{IsHeldAt, IsInBatch, setting_of}
 use Rattle.ild_run_document.specs.Null.{null_text}
 use Rattle.ild_run_document.specs.Turns.{AreAlike, Turns, TurnsTo}
@@ -40,6 +42,10 @@ told_beneath : (own : List (List ℕ)) (o : Option (List (List ℕ))) → option
 told_beneath own None told = told
 told_beneath own (Some held) told = λ e. absurd cc
 
+-- what collides over a batch does so with what the store and the batch hold together
+clash_over : (b : Doc) (n : Moment) (own : List (List ℕ)) (g p : ℕ) (y : ℕ × ℕ) → HasClash (batch_moment n own g p y) → HasClash (beside (Some b) own n)
+clash_over b n own g p y x = let c = x.1 in (x.0, record { kept = c.kept; new = c.new; held = c.held; among = c.among; collide = c.collide })
+
 pub asks_inside : AnswersInside → CarriedOverBatch → LaterBeneath → (old new b : Doc) (was now : List (List ℕ)) (a : Ask) (m n : Moment) (reply : Reply) (g p : ℕ) (x y : ℕ × ℕ)
     → IsOfStore a → length now ≤ 2 ^ 64 - 1 → AreAlike old (Some b) → AnswersAs id_of old new a (batch_moment m was 0 0 x) (Some reply) (batch_moment n now g p y) → Turns id_of old new (Some b) (Some b) was now a m (Some (told_inside reply)) n
 asks_inside inside over beneath old new b was now a m n reply g p x y of fits alike ans =
@@ -53,6 +59,7 @@ asks_inside inside over beneath old new b was now a m n reply g p x y of fits al
       rooted = λ id is. absurd (rootless reply id is);
       failed = λ is. ans.failed (ap Some (refused_as reply N.Store is));
       blamed = λ is. ans.blamed (ap Some (refused_as reply N.Block is));
+      clashed = λ is. inr (clash_over b n now g p y (ans.clashed (ap Some (refused_as reply N.Clash is))));
       leads = λ tests s are z. subst (λ (t : Stage Value). TurnsTo id_of (setting_of id_of old tests) new (Some b) now tests a m t (Some (told_inside reply)) n) (sym z.is) (leads tests s are z under);
     } where
       leads : (tests : Tests) (s : Stage Value) → AreTests (table_in old) tests → (z : IsInBatch id_of old b was tests m s) → IsLaterBeneath m n x y → TurnsTo id_of (setting_of id_of old tests) new (Some b) now tests a m (batching z.value z.kept z.owed was) (Some (told_inside reply)) n

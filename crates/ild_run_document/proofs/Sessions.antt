@@ -111,6 +111,7 @@ document_passes old new m n line reply t = record {
   told = λ tell path is. let x = t.told tell path is in record { block = x.0; begun = x.1 };
   rooted = t.rooted;
   blamed = t.blamed;
+  clashed = t.clashed;
 }
 
 -- the types are alike, since it is known that they are

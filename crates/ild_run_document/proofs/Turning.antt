@@ -2,12 +2,15 @@
 use Rattle.std.proofs.Common.{◌≡◌, ◌≢◌, ◌⊎◌, inl, inr, ℕ, List, [], Option, Some, None, Result, Ok, Err, refl, sym, ap, ◌∙◌, subst, arith}
 use Rattle.ild_data.specs.Spell.{id_of}
 use Rattle.ild_data.specs.declared.id.BlockId.{BlockId}
+use Rattle.ild_dirty.specs.Flush.{ClashAnswer}
 use Rattle.ild_dirty.specs.declared.fault.FlushFault.{FlushFault}
 use Rattle.ild_dirty.specs.declared.fault.FlushFault.TheVariants as F
+use Rattle.ild_edges.specs.Gained.{Collides}
 use Rattle.ild_edges.specs.Store.{Moment, Keeps}
 use Rattle.ild_edges.specs.Told.{BothTold}
 use Rattle.ild_edges.proofs.Later.{Later-refl}
 use Rattle.ild_schema.specs.Value.{Value}
+use Rattle.ild_script.specs.declared.reply.No.{No}
 use Rattle.ild_script.specs.declared.reply.No.TheVariants as N
 use Rattle.ild_script.specs.declared.reply.Reply.{Reply}
 use Rattle.ild_script.specs.declared.reply.Reply.TheVariants as R
@@ -47,6 +50,7 @@ asks_outside old new was now a m reply n x = record {
   rooted = x.rooted;
   failed = x.failed;
   blamed = x.blamed;
+  clashed = λ is. inr (x.clashed is);
   leads = λ tests s are o.
       let on : LeadsOn id_of (setting_of id_of old tests) new a m o.value reply n = x.leads tests o.value are o.held in
       subst (λ (z : Stage Value). TurnsTo id_of (setting_of id_of old tests) new None now tests a m z reply n) (sym o.rests) (record {
@@ -64,10 +68,20 @@ root_told i j b is e = let same : j.0 ≡ i.0 = cc in same ∙ is
 abbrev Stays : Doc → Ask → Moment → Option Reply → Tests → Stage Value → Type 0
 Stays d a m reply tests s = ((reply ≡ (due (setting_of id_of d tests) a s.state).reply) × (s.state ≡ (due (setting_of id_of d tests) a s.state).next)) ⊎ IsExcused m (due (setting_of id_of d tests) a s.state).adds reply m (together m s)
 
+-- nothing of the store is blamed
+abbrev IsCalm : Option Reply → Type 0
+IsCalm (Some (R.No N.Store)) = ⊥
+IsCalm (Some (R.No N.Block)) = ⊥
+IsCalm (Some (R.No N.Clash)) = ⊥
+IsCalm reply = Unit {0}
+
+calm_not : (reply : Option Reply) (refusal : No) → IsCalm reply → reply ≡ Some (R.No refusal) → IsCalm (Some (R.No refusal))
+calm_not reply refusal calm is = subst (λ (r : Option Reply). IsCalm r) is calm
+
 -- a line that leaves the stage, inside a batch or outside
-pub stays_there : StagesStay → (d : Doc) (b : Option Doc) (own : List (List ℕ)) (a : Ask) (m : Moment) (reply : Option Reply) → AreAlike d b → (reply ≡ Some (R.No N.Store) → ⊥) → (reply ≡ Some (R.No N.Block) → ⊥) → ((id : BlockId) → reply ≡ Some (R.Root id) → id.0 ≡ id_of (block_in d))
+pub stays_there : StagesStay → (d : Doc) (b : Option Doc) (own : List (List ℕ)) (a : Ask) (m : Moment) (reply : Option Reply) → AreAlike d b → IsCalm reply → ((id : BlockId) → reply ≡ Some (R.Root id) → id.0 ≡ id_of (block_in d))
     → ((tests : Tests) (s : Stage Value) → StandsSo id_of d b own tests m s → Stays d a m reply tests s) → Turns id_of d d b b own own a m reply m
-stays_there stay d b own a m reply alike calm unblamed rooted stays = record {
+stays_there stay d b own a m reply alike calm rooted stays = record {
   later = Later-refl m;
   table = refl;
   type = refl;
@@ -75,8 +89,9 @@ stays_there stay d b own a m reply alike calm unblamed rooted stays = record {
   kept = λ refusal is. (refl, refl);
   told = λ t path is. (refl, refl);
   rooted = rooted;
-  failed = λ is. absurd (calm is);
-  blamed = λ is. absurd (unblamed is);
+  failed = λ is. absurd (calm_not reply N.Store calm is);
+  blamed = λ is. absurd (calm_not reply N.Block calm is);
+  clashed = λ is. absurd (calm_not reply N.Clash calm is);
   leads = λ tests s are x. record {
     stage = s;
     replies = stay (setting_of id_of d tests) m s (due (setting_of id_of d tests) a s.state) reply (stays tests s x);
@@ -85,16 +100,16 @@ stays_there stay d b own a m reply alike calm unblamed rooted stays = record {
 }
 
 pub memory_is_wanting : StagesStay → (d : Doc) (b : Option Doc) (own : List (List ℕ)) (a : Ask) (m : Moment) → AreAlike d b → Turns id_of d d b b own own a m (Some (R.No N.Memory)) m
-memory_is_wanting stay d b own a m alike = stays_there stay d b own a m (Some (R.No N.Memory)) alike (λ is. absurd cc) (λ e. absurd cc) (λ id e. absurd cc) (λ tests s x. inr (inl tt))
+memory_is_wanting stay d b own a m alike = stays_there stay d b own a m (Some (R.No N.Memory)) alike tt (λ id e. absurd cc) (λ tests s x. inr (inl tt))
 
 pub blank_stays : StagesStay → (d : Doc) (b : Option Doc) (own : List (List ℕ)) (m : Moment) → AreAlike d b → Turns id_of d d b b own own nothing m None m
-blank_stays stay d b own m alike = stays_there stay d b own nothing m None alike (λ is. absurd cc) (λ e. absurd cc) (λ id e. absurd cc) (λ tests s x. inl (refl, refl))
+blank_stays stay d b own m alike = stays_there stay d b own nothing m None alike tt (λ id e. absurd cc) (λ tests s x. inl (refl, refl))
 
 pub unknown_stays : StagesStay → (d : Doc) (b : Option Doc) (own : List (List ℕ)) (m : Moment) → AreAlike d b → Turns id_of d d b b own own unknown m (Some (R.No N.Line)) m
-unknown_stays stay d b own m alike = stays_there stay d b own unknown m (Some (R.No N.Line)) alike (λ is. absurd cc) (λ e. absurd cc) (λ id e. absurd cc) (λ tests s x. inl (refl, refl))
+unknown_stays stay d b own m alike = stays_there stay d b own unknown m (Some (R.No N.Line)) alike tt (λ id e. absurd cc) (λ tests s x. inl (refl, refl))
 
 pub root_outside : StagesStay → (d : Doc) (own : List (List ℕ)) (m : Moment) (id : BlockId) → id.0 ≡ id_of (block_in d) → Turns id_of d d None None own own to_tell_root m (Some (R.Root id)) m
-root_outside stay d own m id is = stays_there stay d None own to_tell_root m (Some (R.Root id)) tt (λ e. absurd cc) (λ e. absurd cc) (λ j e. root_told id j (block_in d) is e) (λ tests s o. inl (by tests s o)) where
+root_outside stay d own m id is = stays_there stay d None own to_tell_root m (Some (R.Root id)) tt tt (λ j e. root_told id j (block_in d) is e) (λ tests s o. inl (by tests s o)) where
   by : (tests : Tests) (s : Stage Value) (o : IsOutside id_of d tests m s) → (Some (R.Root id) ≡ (due (setting_of id_of d tests) to_tell_root s.state).reply) × (s.state ≡ (due (setting_of id_of d tests) to_tell_root s.state).next)
   by tests s o = subst (λ (z : Stage Value). (Some (R.Root id) ≡ (due (setting_of id_of d tests) to_tell_root z.state).reply) × (z.state ≡ (due (setting_of id_of d tests) to_tell_root z.state).next)) (sym o.rests)
       (ap (λ (b : List ℕ). Some (R.Root (record { 0 = b }))) is ∙ ap Some (sym (root_is id_of d tests m o.value o.held.at)), refl)
@@ -102,8 +117,8 @@ root_outside stay d own m id is = stays_there stay d None own to_tell_root m (So
 -- outside a batch none is kept or dropped
 pub none_outside : StagesStay → (d : Doc) (own : List (List ℕ)) (m : Moment) → Turns id_of d d None None own own to_commit m (Some (R.No N.Batch)) m × Turns id_of d d None None own own to_abort m (Some (R.No N.Batch)) m
 none_outside stay d own m = (
-  stays_there stay d None own to_commit m (Some (R.No N.Batch)) tt (λ e. absurd cc) (λ e. absurd cc) (λ id e. absurd cc) (λ tests s o. inl (subst (λ (z : Stage Value). (Some (R.No N.Batch) ≡ (due (setting_of id_of d tests) to_commit z.state).reply) × (z.state ≡ (due (setting_of id_of d tests) to_commit z.state).next)) (sym o.rests) (refl, refl))),
-  stays_there stay d None own to_abort m (Some (R.No N.Batch)) tt (λ e. absurd cc) (λ e. absurd cc) (λ id e. absurd cc) (λ tests s o. inl (subst (λ (z : Stage Value). (Some (R.No N.Batch) ≡ (due (setting_of id_of d tests) to_abort z.state).reply) × (z.state ≡ (due (setting_of id_of d tests) to_abort z.state).next)) (sym o.rests) (refl, refl))),
+  stays_there stay d None own to_commit m (Some (R.No N.Batch)) tt tt (λ id e. absurd cc) (λ tests s o. inl (subst (λ (z : Stage Value). (Some (R.No N.Batch) ≡ (due (setting_of id_of d tests) to_commit z.state).reply) × (z.state ≡ (due (setting_of id_of d tests) to_commit z.state).next)) (sym o.rests) (refl, refl))),
+  stays_there stay d None own to_abort m (Some (R.No N.Batch)) tt tt (λ id e. absurd cc) (λ tests s o. inl (subst (λ (z : Stage Value). (Some (R.No N.Batch) ≡ (due (setting_of id_of d tests) to_abort z.state).reply) × (z.state ≡ (due (setting_of id_of d tests) to_abort z.state).next)) (sym o.rests) (refl, refl))),
 )
 
 -- a batch begins
@@ -118,6 +133,7 @@ begins begin d b m own same = record {
   rooted = λ id is. absurd cc;
   failed = λ is. absurd cc;
   blamed = λ is. absurd cc;
+  clashed = λ is. absurd cc;
   leads = λ tests s are o.
       let w : Setting = setting_of id_of d tests in
       subst (λ (z : Stage Value). TurnsTo id_of w d (Some b) [] tests to_begin m z (Some (R.Ok null_text)) m) (sym o.rests) (record {
@@ -141,8 +157,8 @@ begins begin d b m own same = record {
 -- the root isn't told there, and no batch begins
 pub root_inside : StagesStay → (d b : Doc) (own : List (List ℕ)) (m : Moment) → AreAlike d (Some b) → Turns id_of d d (Some b) (Some b) own own to_tell_root m (Some (R.No N.Batch)) m × Turns id_of d d (Some b) (Some b) own own to_begin m (Some (R.No N.Batch)) m
 root_inside stay d b own m alike = (
-  stays_there stay d (Some b) own to_tell_root m (Some (R.No N.Batch)) alike (λ e. absurd cc) (λ e. absurd cc) (λ id e. absurd cc) (λ tests s x. inl (subst (λ (z : Stage Value). (Some (R.No N.Batch) ≡ (due (setting_of id_of d tests) to_tell_root z.state).reply) × (z.state ≡ (due (setting_of id_of d tests) to_tell_root z.state).next)) (sym x.is) (refl, refl))),
-  stays_there stay d (Some b) own to_begin m (Some (R.No N.Batch)) alike (λ e. absurd cc) (λ e. absurd cc) (λ id e. absurd cc) (λ tests s x. inl (subst (λ (z : Stage Value). (Some (R.No N.Batch) ≡ (due (setting_of id_of d tests) to_begin z.state).reply) × (z.state ≡ (due (setting_of id_of d tests) to_begin z.state).next)) (sym x.is) (refl, refl))),
+  stays_there stay d (Some b) own to_tell_root m (Some (R.No N.Batch)) alike tt (λ id e. absurd cc) (λ tests s x. inl (subst (λ (z : Stage Value). (Some (R.No N.Batch) ≡ (due (setting_of id_of d tests) to_tell_root z.state).reply) × (z.state ≡ (due (setting_of id_of d tests) to_tell_root z.state).next)) (sym x.is) (refl, refl))),
+  stays_there stay d (Some b) own to_begin m (Some (R.No N.Batch)) alike tt (λ id e. absurd cc) (λ tests s x. inl (subst (λ (z : Stage Value). (Some (R.No N.Batch) ≡ (due (setting_of id_of d tests) to_begin z.state).reply) × (z.state ≡ (due (setting_of id_of d tests) to_begin z.state).next)) (sym x.is) (refl, refl))),
 )
 
 no_batch_by : StagesStay → (d b : Doc) (own : List (List ℕ)) (m : Moment) (a : Ask) → IsOfSession a → (a ≡ to_commit → ⊥) → (a ≡ to_abort → ⊥) → AreAlike d (Some b) → Turns id_of d d (Some b) (Some b) own own a m (Some (R.No N.Batch)) m
@@ -199,6 +215,7 @@ drops end d b own now m alike = record {
   rooted = λ id is. absurd cc;
   failed = λ is. absurd cc;
   blamed = λ is. absurd cc;
+  clashed = λ is. absurd cc;
   leads = λ tests s are x.
       let w : Setting = setting_of id_of d tests in
       subst (λ (z : Stage Value). TurnsTo id_of w b None now tests to_abort m z (Some (R.Ok null_text)) m) (sym x.is) (record {
@@ -234,6 +251,7 @@ keeps d b own now m n id is c = record {
   rooted = λ j e. root_told id j (block_in d) is e;
   failed = λ e. absurd cc;
   blamed = λ e. absurd cc;
+  clashed = λ e. absurd cc;
   leads = λ tests s are x.
       let w : Setting = setting_of id_of d tests in
       let replies : Replies (typed_lines w) m (batching x.value x.kept x.owed own) (due w to_commit (begun_at x.value x.kept)) (Some (root_reply w x.value)) n (resting x.value) = c.replies tests x.value x.kept x.owed are x.at x.most x.carries in
@@ -267,6 +285,11 @@ unblamed_commit F.Store e = absurd cc
 unblamed_commit (F.Clash id kept new) e = absurd cc
 unblamed_commit F.Memory e = absurd cc
 
+clash_commit : (own : List (List ℕ)) (n : Moment) (fault : FlushFault) → Some (R.No (refusal_of fault)) ≡ Some (R.No N.Clash) → ClashAnswer own (Err fault) n → Collides n own
+clash_commit own n F.Store e c = absurd cc
+clash_commit own n (F.Clash id kept new) e c = c
+clash_commit own n F.Memory e c = absurd cc
+
 -- a refused commit leaves the batch open
 pub stays_open : (d b : Doc) (own : List (List ℕ)) (m n : Moment) (fault : FlushFault) → AreAlike d (Some b) → Commits id_of d own m (Err fault) n → Turns id_of d d (Some b) (Some b) own own to_commit m (Some (R.No (refusal_of fault))) n
 stays_open d b own m n fault alike c = record {
@@ -279,6 +302,7 @@ stays_open d b own m n fault alike c = record {
   rooted = λ id e. absurd cc;
   failed = λ e. c.failed (store_is fault e (Err fault) refl);
   blamed = λ e. absurd (unblamed_commit fault e);
+  clashed = λ e. inl (clash_commit own n fault e c.clashed);
   leads = λ tests s are x.
       let w : Setting = setting_of id_of d tests in
       let replies : Replies (typed_lines w) m (batching x.value x.kept x.owed own) (due w to_commit (begun_at x.value x.kept)) (Some (commit_reply w x.value (Err fault))) n (batching x.value x.kept x.owed own) = c.replies tests x.value x.kept x.owed are x.at x.most x.carries in

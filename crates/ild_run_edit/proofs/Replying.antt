@@ -30,7 +30,7 @@ use Rattle.ild_run_edit.specs.inside.Roots.{RootFails, RootIsMade, MakesRoot}
 use Rattle.ild_path_place.specs.declared.verb.Verb.{Verb}
 use Rattle.ild_run_edit.proofs.Passing.{itself_passes, told_any, told_both}
 use Rattle.ild_run_standing.specs.Answers.{PassesOn}
-use Rattle.ild_run_standing.specs.Blame.{IsBroken}
+use Rattle.ild_run_standing.specs.Blame.{HasClash, IsBroken}
 use Rattle.ild_run_standing.specs.Laws.{StandingAreAt}
 use Rattle.ild_run_standing.specs.Standing.{IsHeldAt, setting_of}
 use Rattle.ild_view_doc.specs.Docs.{table_in, type_in, block_in}
@@ -132,8 +132,8 @@ module _ (h : List ℕ → List ℕ) (old : Doc) (e : Edit (List ℕ)) (m n : Mo
       by (inl same) = inl (ap (λ x. Some (edit_reply w x None)) (sym same), ap (λ x. edit_next (idle v) x) (sym same))
       by (inr cause) = inr (inl cause, refl)
 
-pub refused_edits : (h : List ℕ → List ℕ) (d : Doc) (verb : Verb) (path : List (List ℕ)) (json : List ℕ) (m n : Moment) (r : No) → MakesRoot h d (edit_of verb path json) m (Err r) n → Edits h d d verb path json m (Err r) n
-refused_edits h d verb path json m n r x = record {
+pub refused_edits : (h : List ℕ → List ℕ) (d : Doc) (verb : Verb) (path : List (List ℕ)) (json : List ℕ) (m n : Moment) (r : No) → (r ≡ N.Clash → HasClash n) → MakesRoot h d (edit_of verb path json) m (Err r) n → Edits h d d verb path json m (Err r) n
+refused_edits h d verb path json m n r clash x = record {
   answers = record {
     later = x.later;
     table = refl;
@@ -143,6 +143,7 @@ refused_edits h d verb path json m n r x = record {
     rooted = λ id told. absurd (root_not_no id r (sym told));
     failed = λ e. fails_rose h d m n r x.fails (no_same r N.Store e);
     blamed = λ e. fails_blamed h d m n r x.fails (no_same r N.Block e);
+    clashed = λ e. clash (no_same r N.Clash e);
     leads = λ t v tests at. record {
       next = v;
       at = record { told = told_later m n x.later at.at.told; tree = at.at.tree; storable = at.at.storable; block = at.at.block };
@@ -213,6 +214,7 @@ done_edits at_standing h old new verb path json m n b table type block x = recor
     rooted = λ id told. same_root (record { 0 = id_of (block_in new) }) id told;
     failed = λ e. absurd (root_not_no _ N.Store e);
     blamed = λ e. absurd (root_not_no _ N.Block e);
+    clashed = λ e. absurd (root_not_no _ N.Clash e);
     leads = λ t v tests at.
         let y = x.makes t v tests at in record {
           next = y.answer.value;

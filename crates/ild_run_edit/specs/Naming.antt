@@ -1,26 +1,25 @@
 -- The id of a clash.
-use Rattle.std.specs.Prelude.{◌≡◌, ℕ, List, Option, Some, None}
+use Rattle.std.specs.Prelude.{◌≡◌, ℕ, List, [], ◌∷◌, Option, Some, None}
 use Rattle.ild_build_blocks.specs.declared.fault.BuildFault.{BuildFault}
 use Rattle.ild_build_blocks.specs.declared.fault.BuildFault.TheVariants as B
 use Rattle.ild_data.specs.Bytes.{AreBytes}
 use Rattle.ild_data.specs.declared.id.BlockId.{BlockId}
-use Rattle.ild_edges.specs.Collide.{Collide}
-use Rattle.ild_edges.specs.Store.{Moment, block_at}
-use Rattle.ild_edges.specs.Told.{IfTold}
+use Rattle.ild_data.specs.Spell.{id_of}
+use Rattle.ild_edges.specs.Gained.{Collides}
+use Rattle.ild_edges.specs.Store.{Moment}
 use Rattle.ild_path.specs.declared.fault.EditFault.{EditFault}
 use Rattle.ild_path.specs.declared.fault.EditFault.TheVariants as F
 
--- the store keeps other bytes under the id than a block that has it
-pub record IsTaken (held : List (List ℕ)) (id : List ℕ) : Type 0 where
-  pub kept : List ℕ
+-- a block has the id, and collides with one that is held
+pub record IsTaken (n : Moment) (id : List ℕ) : Type 0 where
   pub new : List ℕ
-  pub there : block_at held id ≡ Some kept
-  pub collide : Collide kept new
+  pub named : id_of new ≡ id
+  pub hit : Collides n (new ∷ [])
 
 -- the id of a clash, where one is named
 abbrev pub NamesClash : Option BlockId → Moment → Type 0
 NamesClash None n = ⊥
-NamesClash (Some id) n = IfTold n.blocks (λ held. IsTaken held id.0)
+NamesClash (Some id) n = IsTaken n id.0
 
 -- ---- as faults have it
 

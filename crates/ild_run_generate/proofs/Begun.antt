@@ -1,20 +1,23 @@
 -- The run of the generator, from the empty map's document.
-use Rattle.std.proofs.Common.{◌≡◌, ℕ, [], List, length, Option, Some, None, Result, Ok, Err, refl, sym, ap, ◌∙◌, subst, arith}
+use Rattle.std.proofs.Common.{◌≡◌, inl, ℕ, [], ◌∷◌, List, length, Option, Some, None, Result, Ok, Err, refl, sym, ap, ◌∙◌, subst, arith}
 use Rattle.std.specs.Prelude.{Contains}
+use Rattle.ild_cbor.specs.declared.why.BlockWhy.{BlockWhy}
 use Rattle.ild_data.specs.Spell.{id_of}
 use Rattle.ild_data.specs.declared.id.BlockId.{BlockId}
-use Rattle.ild_edges.proofs.Later.{Later-trans}
-use Rattle.ild_edges.specs.Store.{Moment, Keeps, block_at}
+use Rattle.ild_edges.proofs.Among.{IsIn-contains}
+use Rattle.ild_edges.proofs.Later.{Later-refl, Later-trans}
+use Rattle.ild_edges.specs.Store.{Moment, Later, Keeps, block_at}
 use Rattle.ild_edges.specs.Told.{BothTold, IfTold}
 use Rattle.ild_generator.specs.Generated.{Generated, generated, root_in, blocks_in, blocks_through}
 use Rattle.ild_generator.specs.Schema.{generator_rows, generator_type}
+use Rattle.ild_open.specs.Broken.{IsRefused}
 use Rattle.ild_path_edits.specs.Judged.{Tests}
 use Rattle.ild_run_edit.specs.Naming.{IsTaken}
 use Rattle.ild_run_generate.specs.inside.Counting.{CountIs, CountsEntries}
 use Rattle.ild_run_generate.specs.Generates.{Generates, GeneratesTold}
 use Rattle.ild_run_generate.specs.Runs.{RunAnswer, RunsFrom, TakesSteps}
 use Rattle.ild_run_generate.specs.inside.Starting.{start_fault}
-use Rattle.ild_run_generate.specs.Steps.{Causes, IsOfGenerator, counts_of}
+use Rattle.ild_run_generate.specs.Steps.{TellsBlock, Causes, IsOfGenerator, counts_of}
 use Rattle.ild_run_generate.specs.declared.fault.GenerateFault.{GenerateFault}
 use Rattle.ild_run_generate.specs.declared.fault.GenerateFault.TheVariants as F
 use Rattle.ild_run_generate.specs.declared.summary.Counts.{Counts}
@@ -36,7 +39,7 @@ use Rattle.ild_schema.specs.declared.row.Row.{Row}
 use Rattle.ild_script_meaning.specs.PlainMap.{as_value}
 use Rattle.ild_script_session.specs.Step.{AddsOnly}
 use Rattle.ild_typed.specs.Stands.{Stands, bare}
-use Rattle.ild_view_doc.specs.Docs.{type_in, block_in}
+use Rattle.ild_view_doc.specs.Docs.{table_in, type_in, block_in}
 use Rattle.ild_view_doc.specs.declared.doc.Doc.{Doc}
 
 -- ---- to the end
@@ -50,6 +53,16 @@ count_cause v F.Memory bs n is = tt
 abbrev summary_made : Counts → ℕ → List ℕ → Summary
 summary_made c len root = record { sets = c.sets; dels = c.dels; absent = c.absent; len = len; root = record { 0 = root } }
 
+-- not all steps were taken
+pub run_stopped : (old d : Doc) (seed count : ℕ) (m n : Moment) (f : GenerateFault) → TakesSteps old d seed count m (Err f) n → RunsFrom old seed count m (Err f) n
+run_stopped old d seed count m n f steps = record {
+  later = steps.later;
+  failed = λ e. steps.failed (let g = e in cc);
+  clashed = λ id e. steps.clashed id (let g = e in cc);
+  blamed = λ id why e. steps.blamed id why (let g = e in cc);
+  told = steps.told;
+}
+
 module _ (old d : Doc) (seed count : ℕ) (m k n : Moment) (c : Counts) (steps : TakesSteps old d seed count m (Ok c) k) where
   abbrev v : Value
   v = as_value (generated seed count).entries
@@ -58,6 +71,18 @@ module _ (old d : Doc) (seed count : ℕ) (m k n : Moment) (c : Counts) (steps :
   run_cut f read = record {
     later = Later-trans m k n steps.later read.reads.later;
     failed = λ e. rose_later m k n steps.later (read.failed (let g = e in cc));
+    clashed = λ id e. absurd (read.unclashed id (let g = e in cc));
+    blamed = λ id why e. record {
+      doc = d;
+      table = steps.table;
+      type = steps.type;
+      from = k;
+      to = n;
+      after = steps.later;
+      before = Later-refl n;
+      cause = inl (subst (λ (r : List Row). IsRefused id_of r k.blocks k.lacks n.lacks (type_in old) (id_of (block_in d)) id.0 why) steps.table
+          (subst (λ (t : TypeNo). IsRefused id_of (table_in d) k.blocks k.lacks n.lacks t (id_of (block_in d)) id.0 why) steps.type (read.refused id why (let g = e in cc))));
+    };
     told = λ tests are of held.
         let through = steps.told tests are of held in record {
           cause = count_cause v f (blocks_through seed count) n (read.told tests v through.held);
@@ -70,6 +95,8 @@ module _ (old d : Doc) (seed count : ℕ) (m k n : Moment) (c : Counts) (steps :
   run_done back len root read is = record {
     later = Later-trans m k n steps.later read.reads.later;
     failed = λ e. absurd cc;
+    clashed = λ id e. absurd cc;
+    blamed = λ id why e. absurd cc;
     told = λ tests are of held.
         let through = steps.told tests are of held in
         let now : IsOfGenerator d = record { table = steps.table ∙ of.table; type = steps.type ∙ of.type } in
@@ -83,6 +110,12 @@ module _ (old d : Doc) (seed count : ℕ) (m k n : Moment) (c : Counts) (steps :
   }
 
 -- ---- from the start
+
+-- a block that is told of a document is told from an earlier moment on, and of this table and type
+pub blames_as : (few rows : List Row) (of ty : TypeNo) (m k n : Moment) (id : List ℕ) (why : BlockWhy) → few ≡ rows → of ≡ ty → Later m k → TellsBlock few of k n id why → TellsBlock rows ty m n id why
+blames_as few rows of ty m k n id why table type later x =
+    subst (λ (r : List Row). TellsBlock r ty m n id why) table
+    (subst (λ (t : TypeNo). TellsBlock few t m n id why) type (record { doc = x.doc; table = x.table; type = x.type; from = x.from; to = x.to; after = Later-trans m k x.from later x.after; before = x.before; cause = x.cause }))
 
 told_by : (a b : Option (List (List ℕ))) (held : List (List ℕ)) → a ≡ Some held → BothTold a b Keeps → (now : List (List ℕ)) × (b ≡ Some now)
 told_by (Some a) (Some b) held is keeps = (b, refl)
@@ -100,27 +133,24 @@ module _ (law : StandingAreAt) (rows : List Row) (table : rows ≡ generator_row
   pub stopped : (f : StartFault) → Starts id_of rows generator_type S.Empty m (Err f) k → Generates seed count m (Err (start_fault f)) k
   stopped (P.Block id why) starts = absurd starts.answer
   stopped P.Mismatch starts = absurd (let e = sym (ap (λ r. empty_of r generator_type) table) ∙ starts.answer.0 in cc)
-  stopped P.Store starts = record { later = starts.asks.later; failed = λ e. starts.answer; told = λ held tests told are. record { answer = tt; adds = start_adds starts.asks.adds } }
-  stopped P.Memory starts = record { later = starts.asks.later; failed = λ e. absurd cc; told = λ held tests told are. record { answer = tt; adds = start_adds starts.asks.adds } }
+  stopped P.Store starts = record { later = starts.asks.later; failed = λ e. starts.answer; clashed = λ id e. absurd cc; blamed = λ id why e. absurd cc; told = λ held tests told are. record { answer = tt; adds = start_adds starts.asks.adds } }
+  stopped P.Memory starts = record { later = starts.asks.later; failed = λ e. absurd cc; clashed = λ id e. absurd cc; blamed = λ id why e. absurd cc; told = λ held tests told are. record { answer = tt; adds = start_adds starts.asks.adds } }
   stopped (P.Clash id) starts =
       let clash : ClashesEmpty id_of generator_rows generator_type id.0 k = subst (λ (r : List Row). ClashesEmpty id_of r generator_type id.0 k) table starts.answer in record {
         later = starts.asks.later;
         failed = λ e. absurd cc;
-        told = λ held tests told are. record {
-          answer = (collides_wider k (blocks_in []) (blocks_through seed count) empty_among clash.hit, named id clash k.blocks refl);
-          adds = start_adds starts.asks.adds;
-        };
+        clashed = λ other e. subst (λ (i : List ℕ). IsTaken k i) (same_clash id other e) (taken id.0 clash);
+        blamed = λ other why e. absurd cc;
+        told = λ held tests told are. record { answer = collides_wider k (blocks_in []) (blocks_through seed count) empty_among clash.hit; adds = start_adds starts.asks.adds };
       }
     where
-      named : (id : BlockId) (clash : ClashesEmpty id_of generator_rows generator_type id.0 k) (o : Option (List (List ℕ))) → k.blocks ≡ o → IfTold o (λ held. IsTaken held id.0)
-      named id clash None is = tt
-      named id clash (Some held) is =
-          let there = subst (λ (o : Option (List (List ℕ))). IfTold o (λ held. (block_at held (id_of clash.hit.kept) ≡ Some clash.hit.kept) × Unit {0})) is clash.hit.held in record {
-            kept = clash.hit.kept;
-            new = clash.hit.new;
-            there = subst (λ (j : List ℕ). block_at held j ≡ Some clash.hit.kept) (clash.hit.collide.one_id ∙ sym clash.named) there.0;
-            collide = clash.hit.collide;
-          }
+      taken : (id : List ℕ) → ClashesEmpty id_of generator_rows generator_type id k → IsTaken k id
+      taken id clash =
+          let hit = clash.hit in
+          record { new = hit.new; named = sym clash.named; hit = record { kept = hit.kept; new = hit.new; held = hit.held; among = IsIn-contains hit.new (hit.new ∷ []) (inl refl); collide = hit.collide } }
+
+      same_clash : (i j : BlockId) → ◌≡◌ {A = Result Summary GenerateFault} (Err (F.Clash i)) (Err (F.Clash j)) → i.0 ≡ j.0
+      same_clash i j e = cc
 
   module _ (d : Doc) (starts : Starts id_of rows generator_type S.Empty m (Ok d) k) where
     of_start : IsOfGenerator d
@@ -143,6 +173,8 @@ module _ (law : StandingAreAt) (rows : List Row) (table : rows ≡ generator_row
     ran n r runs = record {
       later = Later-trans m k n starts.asks.later runs.later;
       failed = λ e. rose_later m k n starts.asks.later (runs.failed e);
+      clashed = runs.clashed;
+      blamed = λ id why e. blames_as (table_in d) generator_rows (type_in d) generator_type m k n id.0 why of_start.table of_start.type starts.asks.later (runs.blamed id why e);
       told = λ held tests told are.
           let now = told_by m.blocks k.blocks held told starts.asks.later.keeps in
           told_answer n tests r (runs.told tests are of_start (held_first tests now.0 now.1));

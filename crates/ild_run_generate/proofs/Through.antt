@@ -65,7 +65,7 @@ among_through seed i (suc j) low b here = among_by seed i j b (λ less. among_th
 pub causes_wider : (few many : List (List ℕ)) (f : GenerateFault) (n : Moment) → ((b : List ℕ) → Contains few b → Contains many b) → Causes few f n → Causes many f n
 causes_wider few many (F.Block id why) n among cause = cause
 causes_wider few many F.Store n among cause = tt
-causes_wider few many (F.Clash id) n among cause = (collides_wider n few many among cause.0, cause.1)
+causes_wider few many (F.Clash id) n among cause = collides_wider n few many among cause
 causes_wider few many F.Memory n among cause = tt
 
 module _ (tests : Tests) (seed i : ℕ) (m k n : Moment) (d e : Doc) (c : Counts) (before : IsThrough tests seed i m d c k) where

@@ -1,14 +1,17 @@
 -- What a run of the generator answers, and what it leaves of the store.
 use Rattle.std.specs.Prelude.{◌≡◌, ℕ, List, Some, Result, Ok, Err}
+use Rattle.ild_cbor.specs.declared.why.BlockWhy.{BlockWhy}
 use Rattle.ild_data.specs.Spell.{id_of}
+use Rattle.ild_data.specs.declared.id.BlockId.{BlockId}
 use Rattle.ild_edges.specs.Count.{Rose}
 use Rattle.ild_edges.specs.Store.{Moment, Later, block_at}
 use Rattle.ild_edges.specs.Told.{IfTold}
 use Rattle.ild_generator.specs.Generated.{generated, blocks_through}
 use Rattle.ild_generator.specs.Schema.{generator_rows, generator_type}
 use Rattle.ild_path_edits.specs.Judged.{Tests, AreTests}
+use Rattle.ild_run_edit.specs.Naming.{IsTaken}
 use Rattle.ild_run_generate.specs.Runs.{summary_of}
-use Rattle.ild_run_generate.specs.Steps.{Causes}
+use Rattle.ild_run_generate.specs.Steps.{TellsBlock, Causes}
 use Rattle.ild_run_generate.specs.declared.fault.GenerateFault.{GenerateFault}
 use Rattle.ild_run_generate.specs.declared.fault.GenerateFault.TheVariants as F
 use Rattle.ild_run_generate.specs.declared.summary.Summary.{Summary}
@@ -34,4 +37,6 @@ module _ (seed count : ℕ) where
   pub record Generates (m : Moment) (result : Result Summary GenerateFault) (n : Moment) : Type 0 where
     pub later : Later m n
     pub failed : result ≡ Err F.Store → Rose m.faults n.faults
+    pub clashed : (id : BlockId) → result ≡ Err (F.Clash id) → IsTaken n id.0
+    pub blamed : (id : BlockId) (why : BlockWhy) → result ≡ Err (F.Block id why) → TellsBlock generator_rows generator_type m n id.0 why
     pub told : (held : List (List ℕ)) (tests : Tests) → m.blocks ≡ Some held → AreTests generator_rows tests → GeneratesTold m result n

@@ -1,13 +1,16 @@
 -- What the steps of the generator answer, one after another.
 use Rattle.std.specs.Prelude.{◌≡◌, ℕ, [], length, Result, Ok, Err}
+use Rattle.ild_cbor.specs.declared.why.BlockWhy.{BlockWhy}
 use Rattle.ild_data.specs.Spell.{id_of}
+use Rattle.ild_data.specs.declared.id.BlockId.{BlockId}
 use Rattle.ild_edges.specs.Count.{Rose}
 use Rattle.ild_edges.specs.Store.{Moment, Later, block_at}
 use Rattle.ild_edges.specs.Told.{IfTold}
 use Rattle.ild_generator.specs.Generated.{Generated, generated, root_in, blocks_through}
 use Rattle.ild_generator.specs.Schema.{generator_rows, generator_type}
 use Rattle.ild_path_edits.specs.Judged.{Tests, AreTests}
-use Rattle.ild_run_generate.specs.Steps.{IsOfGenerator, Causes, counts_of}
+use Rattle.ild_run_edit.specs.Naming.{IsTaken}
+use Rattle.ild_run_generate.specs.Steps.{TellsBlock, IsOfGenerator, Causes, counts_of}
 use Rattle.ild_run_generate.specs.declared.fault.GenerateFault.{GenerateFault}
 use Rattle.ild_run_generate.specs.declared.fault.GenerateFault.TheVariants as F
 use Rattle.ild_run_generate.specs.declared.summary.Counts.{Counts}
@@ -40,6 +43,8 @@ pub record TakesSteps (old new : Doc) (seed count : ℕ) (m : Moment) (result : 
   pub table : table_in new ≡ table_in old
   pub type : type_in new ≡ type_in old
   pub failed : result ≡ Err F.Store → Rose m.faults n.faults
+  pub clashed : (id : BlockId) → result ≡ Err (F.Clash id) → IsTaken n id.0
+  pub blamed : (id : BlockId) (why : BlockWhy) → result ≡ Err (F.Block id why) → TellsBlock (table_in old) (type_in old) m n id.0 why
   pub told : (tests : Tests) → AreTests generator_rows tests → IsOfGenerator old → IsHeldAt id_of old tests m (as_value []) → StepsAnswer tests seed count m new result n
 
 -- ---- from the empty map's document on
@@ -61,4 +66,6 @@ RunAnswer tests seed count m (Err f) n = IsStopped seed count m f n
 pub record RunsFrom (d : Doc) (seed count : ℕ) (m : Moment) (result : Result Summary GenerateFault) (n : Moment) : Type 0 where
   pub later : Later m n
   pub failed : result ≡ Err F.Store → Rose m.faults n.faults
+  pub clashed : (id : BlockId) → result ≡ Err (F.Clash id) → IsTaken n id.0
+  pub blamed : (id : BlockId) (why : BlockWhy) → result ≡ Err (F.Block id why) → TellsBlock (table_in d) (type_in d) m n id.0 why
   pub told : (tests : Tests) → AreTests generator_rows tests → IsOfGenerator d → IsHeldAt id_of d tests m (as_value []) → RunAnswer tests seed count m result n

@@ -55,7 +55,7 @@ pub(crate) fn count_entries<K: Store>(
 /// The block that is lacking, where an edit met one: that which an opening of the document's root meets, or the root, where it meets none
 /// any more.
 pub(crate) fn lacking<K: Store>(alloc: Global, doc: &Doc<'_>, store: &mut K) -> GenerateFault
-    ensures { Lacks (K.moment store.old) result (K.moment store.new) }
+    ensures { Lacks doc.now (K.moment store.old) result (K.moment store.new) }
 {
     match count_entries(alloc, doc, store) {
         Ok(_) => GenerateFault::Block {

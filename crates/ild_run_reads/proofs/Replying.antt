@@ -3,7 +3,6 @@ use Rattle.std.proofs.Common.{◌≡◌, ◌⊎◌, inl, inr, ℕ, ◌+◌, ◌�
 use Rattle.ild_data.specs.Data.{Data}
 use Rattle.ild_data.specs.Limits.{deepest}
 use Rattle.ild_data.specs.Seen.{data_of}
-use Rattle.ild_data.specs.declared.id.BlockId.{BlockId}
 use Rattle.ild_data.specs.declared.tree.Tree.{Tree}
 use Rattle.ild_edges.specs.Count.{Rose}
 use Rattle.ild_edges.specs.Store.{Moment}
@@ -28,7 +27,7 @@ use Rattle.ild_run_follow.specs.declared.fault.ReadFault.{ReadFault}
 use Rattle.ild_run_follow.specs.declared.fault.ReadFault.TheVariants as F
 use Rattle.ild_run_follow.specs.declared.kind.Tell.{Tell}
 use Rattle.ild_run_follow.specs.declared.kind.Tell.TheVariants as T
-use Rattle.ild_run_reads.specs.Replies.{IsAbout, IsBlamed, RepliesAs, asked, refusal_of}
+use Rattle.ild_run_reads.specs.Replies.{IsAbout, IsBlamed, IsOfRead, RepliesAs, asked, refusal_of}
 
 -- the definitions of lines, and those of what is told
 told_here : (w : Setting) (tell : Tell) (o : Option InSlot) → told_of w (asked tell) o ≡ told w.hash w.rows tell o
@@ -103,15 +102,21 @@ module _ (h : List ℕ → List ℕ) (view : View) (path : List (List ℕ)) (tel
     failed = refused_fails e l.failed;
   }
 
--- ---- no root is told
+-- ---- no root is told, and nothing clashes
 
-printed_rootless : (o : Option (List ℕ)) (id : BlockId) → printed_or o ≡ R.Root id → ⊥
-printed_rootless None id e = absurd cc
-printed_rootless (Some text) id e = absurd cc
+printed_own : (o : Option (List ℕ)) → IsOfRead (printed_or o)
+printed_own None = tt
+printed_own (Some text) = tt
 
-pub told_rootless : (d : Data) (reply : Reply) (id : BlockId) → (reply ≡ printed d) ⊎ (reply ≡ R.No N.Memory) → reply ≡ R.Root id → ⊥
-told_rootless d reply id (inl is) e = printed_rootless (json_text d) id (sym is ∙ e)
-told_rootless d reply id (inr is) e = let x : R.No N.Memory ≡ R.Root id = sym is ∙ e in absurd cc
+pub told_own : (d : Data) (reply : Reply) → (reply ≡ printed d) ⊎ (reply ≡ R.No N.Memory) → IsOfRead reply
+told_own d reply (inl is) = subst (λ (r : Reply). IsOfRead r) (sym is) (printed_own (json_text d))
+told_own d reply (inr is) = subst (λ (r : Reply). IsOfRead r) (sym is) tt
+
+pub refused_own : (e : ReadFault) → IsOfRead (R.No (refusal_of e))
+refused_own F.Path = tt
+refused_own (F.Block id why) = tt
+refused_own F.Store = tt
+refused_own F.Memory = tt
 
 -- ---- a block is blamed
 

@@ -55,6 +55,12 @@ pub record RepliesAs (h : List ℕ → List ℕ) (view : View) (path : List (Lis
   pub only : OnlyReads m n
   pub failed : reply ≡ R.No N.Store → Rose m.faults n.faults
 
+-- a read tells no root, and puts nothing that could clash
+abbrev pub IsOfRead : Reply → Type 0
+IsOfRead (R.Root id) = ⊥
+IsOfRead (R.No N.Clash) = ⊥
+IsOfRead reply = Unit {0}
+
 -- of data of a slot that stand in the block `at`, one block is broken of those that hang on them
 pub record IsBlamed (h : List ℕ → List ℕ) (rows : List Row) (told : Option (List (List ℕ))) (before now : ℕ) (at : List ℕ) (s : Slot) (t : Data) : Type 0 where
   pub id : List ℕ

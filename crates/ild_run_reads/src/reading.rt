@@ -1,14 +1,13 @@
 //! What is told of a part, as a reply.
-ghost use Rattle.std.specs.Prelude.{◌≡◌, ◌≢◌, ◌⊎◌};
+ghost use Rattle.std.specs.Prelude.{◌≡◌, ◌⊎◌};
 ghost use Rattle.ild_data.specs.Data.{Data};
 ghost use Rattle.ild_data.specs.Limits.{deepest};
 ghost use Rattle.ild_data.specs.Seen.{data_of};
 ghost use Rattle.ild_data.specs.Spell.{id_of};
-ghost use Rattle.ild_data.specs.declared.id.BlockId.{BlockId};
 ghost use Rattle.ild_script_meaning.specs.Lines.{printed};
 ghost use Rattle.ild_open.specs.Blocks.{bytes_in};
 ghost use Rattle.ild_open.specs.Loaded.{IsShallow};
-ghost use Rattle.ild_run_reads.specs.Replies.{IsBlamed, RepliesAs, refusal_of};
+ghost use Rattle.ild_run_reads.specs.Replies.{IsBlamed, IsOfRead, RepliesAs, refusal_of};
 ghost use Rattle.ild_schema.specs.Value.{Value};
 ghost use Rattle.ild_typed.specs.Fits.{Front};
 ghost use Rattle.ild_view.specs.View.{IsView, slot_of, table_of};
@@ -58,7 +57,7 @@ pub fn read<K: Store, H: KeyHash>(
 ) -> Reply
     requires shallow { ∥ IsShallow 96 view.now ∥₁ }
     ensures replies { RepliesAs H.hash_of view.now path.now what (K.moment store.old) result (K.moment store.new) }
-    ensures rootless { (id : BlockId) → result ≢ Reply.Root id }
+    ensures own { IsOfRead result }
     ensures blamed { result ≡ Reply.No No.Block → (f : Value) (t : Data) → IsView view.now f → Front (table_of view.now) deepest (slot_of view.now) f t
         → IsBlamed H.hash_of (table_of view.now) (K.moment store.old).blocks (K.moment store.old).lacks (K.moment store.new).lacks (id_of (bytes_in at.entry)) (slot_of view.now) t }
 {

@@ -18,7 +18,7 @@ use Rattle.ild_script_meaning.specs.Ask.{Ask, Tell, to_tell}
 use Rattle.ild_script_meaning.specs.Lines.{Setting, due, places_in, typed_lines}
 use Rattle.ild_view_doc.specs.Docs.{table_in, type_in, block_in}
 use Rattle.ild_view_doc.specs.declared.doc.Doc.{Doc}
-use Rattle.ild_run_standing.specs.Blame.{IsBroken}
+use Rattle.ild_run_standing.specs.Blame.{HasClash, IsBroken}
 use Rattle.ild_run_standing.specs.Standing.{DocIsAt, IsHeldAt, setting_of}
 
 -- each place of the next value was there before, with the same blocks from there on down, or the id of its block is given
@@ -33,8 +33,8 @@ pub record LeadsOn (h : List ℕ → List ℕ) (w : Setting) (new : Doc) (a : As
   pub passed : BothTold m.given n.given (λ was now. PassesOn w now v next)
 
 -- Of every store: what was held is held, the table and the type stay, a refusal and a read leave the block, and a root that is told is the
--- block's. That the store failed is told only where it did, and a block is blamed only where one is broken. From where the document stands,
--- whichever the tests of its table are: the reply due, and it stands at what is due next.
+-- block's. That the store failed is told only where it did, a block is blamed only where one is broken, and a clash is told only where there
+-- is one. From where the document stands, whichever the tests of its table are: the reply due, and it stands at what is due next.
 pub record AnswersAs (h : List ℕ → List ℕ) (old new : Doc) (a : Ask) (m : Moment) (reply : Option Reply) (n : Moment) : Type 0 where
   pub later : Later m n
   pub table : table_in new ≡ table_in old
@@ -44,4 +44,5 @@ pub record AnswersAs (h : List ℕ → List ℕ) (old new : Doc) (a : Ask) (m : 
   pub rooted : (id : BlockId) → reply ≡ Some (R.Root id) → id.0 ≡ id_of (block_in new)
   pub failed : reply ≡ Some (R.No N.Store) → Rose m.faults n.faults
   pub blamed : reply ≡ Some (R.No N.Block) → IsBroken h old m.blocks m.lacks n.lacks
+  pub clashed : reply ≡ Some (R.No N.Clash) → HasClash n
   pub leads : (tests : Tests) (v : Value) → AreTests (table_in old) tests → IsHeldAt h old tests m v → LeadsOn h (setting_of h old tests) new a m v reply n

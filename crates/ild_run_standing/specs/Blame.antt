@@ -1,8 +1,10 @@
--- Why a block is blamed, over every store.
+-- Why a block is blamed, and why one clashes, over every store.
 use Rattle.std.specs.Prelude.{ℕ, List, Option}
 use Rattle.ild_cbor.specs.declared.why.BlockWhy.{BlockWhy}
 use Rattle.ild_data.specs.Limits.{deepest}
 use Rattle.ild_data.specs.Spell.{id_of}
+use Rattle.ild_edges.specs.Gained.{Collides}
+use Rattle.ild_edges.specs.Store.{Moment}
 use Rattle.ild_open_parts.specs.Broken.{HasBrokenBlock}
 use Rattle.ild_schema.specs.Slots.{plainly}
 use Rattle.ild_schema.specs.Value.{Value}
@@ -22,3 +24,7 @@ pub record HasBroken (h : List ℕ → List ℕ) (d : Doc) (told : Option (List 
 -- so it is with some front of the document, which has one
 abbrev pub IsBroken : (List ℕ → List ℕ) → Doc → Option (List (List ℕ)) → ℕ → ℕ → Type 0
 IsBroken h d told before now = ∥ HasBroken h d told before now ∥₁
+
+-- a block that is held collides with one that isn't
+abbrev pub HasClash : Moment → Type 0
+HasClash m = (blocks : List (List ℕ)) × Collides m blocks

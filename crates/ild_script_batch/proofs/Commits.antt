@@ -17,11 +17,10 @@ use Rattle.ild_dirty.specs.Flush.{Asks, Flushes, FlushAnswer}
 use Rattle.ild_dirty.specs.declared.fault.FlushFault.{FlushFault}
 use Rattle.ild_dirty.specs.declared.fault.FlushFault.TheVariants as F
 use Rattle.ild_dirty.proofs.Batching.{own_first}
-use Rattle.ild_dirty.proofs.Puts.{held-keeps, told-map}
+use Rattle.ild_dirty.proofs.Puts.{held-keeps, kept_held, told-map}
 use Rattle.ild_edges.specs.Gained.{AreHeld, CameFrom}
 use Rattle.ild_edges.specs.Store.{Moment, Keeps, block_at}
 use Rattle.ild_edges.specs.Told.{BothTold, IfTold}
-use Rattle.ild_edges.proofs.Held.{block_at_id}
 use Rattle.ild_schema.specs.Value.{Value}
 use Rattle.ild_script.specs.declared.reply.No.TheVariants as N
 use Rattle.ild_script.specs.declared.reply.Reply.{Reply}
@@ -209,10 +208,6 @@ module _ (w : Setting) (children : ℕ → List ℕ → List (List ℕ × ℕ)) 
     puts = puts;
     owed = omega arith;
   }
-
-kept_held : (o : Option (List (List ℕ))) (kept : List ℕ) (id : List ℕ) → IfTold o (λ held. block_at held id ≡ Some kept) → IfTold o (λ held. AllByRecursion (λ b. block_at held (id_of b) ≡ Some b) (kept ∷ []))
-kept_held None kept id here = tt
-kept_held (Some held) kept id here = (ap (block_at held) (block_at_id held id kept here) ∙ here, tt)
 
 pub flushes_commit : FlushesCommit
 flushes_commit = by where

@@ -11,7 +11,7 @@ pub returns : goal.returns
 returns g c =
     let schema = subst (λ (rows : List Row). IsSchema rows) c.schema.ensures (record { table = c.recall.ensures.table; accepted = c.recall.ensures.accepted }) in
     read_answers c.values_are_trees.ensures c.standing_are_held.ensures c.held_are_standing.ensures c.reads_are_replies.ensures id_of c.args.doc.now c.view-view.result schema
-    c.view-view.ensures.table c.view-view.ensures.slot c.view-view.ensures.whole c.view-view.ensures.front (bytes_in c.named-at.result) (c.named-at.ensures ∙ c.block.ensures) c.args.path.now c.args.what (g.K.Store.moment c.args.store.now) (g.K.Store.moment c.read.new.store) c.read.result c.read.ensures.replies c.read.ensures.rootless c.read.ensures.blamed
+    c.view-view.ensures.table c.view-view.ensures.slot c.view-view.ensures.whole c.view-view.ensures.front (bytes_in c.named-at.result) (c.named-at.ensures ∙ c.block.ensures) c.args.path.now c.args.what (g.K.Store.moment c.args.store.now) (g.K.Store.moment c.read.new.store) c.read.result c.read.ensures.replies c.read.ensures.own c.read.ensures.blamed
 
 pub read-requires : goal.read-requires
 read-requires g c = record { shallow = root_is_shallow c.args.doc.now c.view-view.result c.args.doc.now.stands c.view-view.ensures.table c.view-view.ensures.slot c.view-view.ensures.front }

@@ -6,7 +6,7 @@ use Rattle.ild_run_generate.proofs.running.generate.Goals as goal
 pub returns-in_default : goal.returns-in_default
 returns-in_default g c =
     let m = g.K.Store.moment c.args.store.now in
-    record { later = Later-refl m; failed = λ e. absurd cc; told = λ held tests told are. record { answer = tt; adds = adds_same m _ } }
+    record { later = Later-refl m; failed = λ e. absurd cc; clashed = λ id e. absurd cc; blamed = λ id why e. absurd cc; told = λ held tests told are. record { answer = tt; adds = adds_same m _ } }
 
 pub returns-in-Ok : goal.returns-in-Ok
 returns-in-Ok g c =

@@ -5,7 +5,9 @@ use Rattle.ild_generator.specs.Generated.{Generated, generated, advanced}
 use Rattle.ild_generator.specs.Numbers.{next}
 use Rattle.ild_run_generate.specs.Runs.{IsThrough}
 use Rattle.ild_run_generate.proofs.Added.{adds_same, rose_later}
+use Rattle.ild_run_generate.proofs.Begun.{blames_as}
 use Rattle.ild_run_generate.proofs.Through.{next_number, stopped_in, through_more}
+use Rattle.ild_view_doc.specs.Docs.{table_in, type_in}
 use Rattle.ild_run_generate.proofs.running.take_steps.Goals as goal
 
 pub loop-i-init : goal.loop-i-init
@@ -31,6 +33,8 @@ returns-in-Err g c =
       table = takes.table ∙ inv.table;
       type = takes.type ∙ inv.type;
       failed = λ e. rose_later m k n inv.later (takes.failed (let f = e in cc));
+      clashed = λ id e. takes.clashed id (let f = e in cc);
+      blamed = λ id why e. blames_as (table_in c.loop-i.doc) (table_in c.args.doc.now) (type_in c.loop-i.doc) (type_in c.args.doc.now) m k n id.0 why inv.table inv.type inv.later (takes.blamed id why (let f = e in cc));
       told = λ tests are of held.
           let before = inv.told tests are of held in
           stopped_in tests c.args.seed c.loop-i.i m k n c.loop-i.doc c.take_step.new.doc c.loop-i.counts before c.args.count (omega arith) c.in-Err.fault
@@ -70,5 +74,7 @@ returns g c =
       table = inv.table;
       type = inv.type;
       failed = λ e. absurd cc;
+      clashed = λ id e. absurd cc;
+      blamed = λ id why e. absurd cc;
       told = λ tests are of held. subst (λ (j : ℕ). IsThrough tests c.args.seed j m c.loop-i.doc c.loop-i.counts k) all (inv.told tests are of held);
     }
