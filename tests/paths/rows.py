@@ -1,6 +1,6 @@
 """Rows for the tests of edits at paths, by the plain program of the conformance cases, which builds each value from scratch.
 
-    python3 tests/paths/rows.py overlaps      the rows of crates/ild_path_edit_tests/src/overlaps.rt
+    python3 tests/paths/rows.py overlaps      the rows of crates/ild_path_tests/src/overlaps.rt
     python3 tests/paths/rows.py paths         the rows of crates/ild_path_tests: edits at places, through HAMTs in one another, and of damaged blocks
     python3 tests/paths/rows.py club          what crates/ild_run_tests/src/club.rt tells of each failing call
     python3 tests/paths/rows.py batch         what crates/ild_run_tests/src/batch.rt tells of each failing call

@@ -14,7 +14,7 @@ use Rattle.ild_edges.specs.Among.{IsIn}
 use Rattle.ild_edges.proofs.Among.{IsIn-left, IsIn-right, IsIn-append, IsIn-one}
 use Rattle.ild_dirty.specs.Own.{index_at}
 use Rattle.ild_dirty.specs.Beneath.{Place, Places, place, no_places, beside, block_of, place_kind, IsTree, AreTrees, HasPlace, HasPlaceBelow, AgreesWith, blocks_in, blocks_below}
-use Rattle.ild_dirty.specs.inside.Walk.{IsOwn, own_block, IsOneOf, Grows, AreSeen, is_same_spot, own_numbers}
+use Rattle.ild_dirty.specs.inside.Walk.{IsOwn, own_block, IsOneOf, Grows, AreSeen, same_spot, own_numbers}
 
 -- ---- one place more
 
@@ -54,28 +54,28 @@ grows_new own c i old new found is = record {
 }
 
 -- an empty set has none
-pub none_seen : {S : Type 0} (set : HashSet (ℕ × ℕ) S) (spots : List (ℕ × ℕ)) → set.keys ≡ [] → AreSeen (contains is_same_spot set) spots
-none_seen set spots empty s told = absurd (let bad : false ≡ true = ap (λ ks. list_any (is_same_spot s) ks) (sym empty) ∙ told in cc)
+pub none_seen : {S : Type 0} (set : HashSet (ℕ × ℕ) S) (spots : List (ℕ × ℕ)) → set.keys ≡ [] → AreSeen (contains same_spot set) spots
+none_seen set spots empty s told = absurd (let bad : false ≡ true = ap (λ ks. list_any (same_spot s) ks) (sym empty) ∙ told in cc)
 
-same_spot : (s t : ℕ × ℕ) → is_same_spot s t ≡ true → s ≡ t
-same_spot (i, j) (k, l) same =
+one_spot : (s t : ℕ × ℕ) → same_spot s t ≡ true → s ≡ t
+one_spot (i, j) (k, l) same =
     let both : (nat_eq i k ≡ true) × (nat_eq j l ≡ true) = and_parts (nat_eq i k) (nat_eq j l) same in
     rw (eqb-true i k both.0, eqb-true j l both.1) refl
 
-seen_by : (has now : ℕ × ℕ → Bool) (spot s : ℕ × ℕ) (spots : List (ℕ × ℕ)) (t : Bool) → is_same_spot spot s ≡ t → now s ≡ cond t true (has s) → IsIn spot spots → (has s ≡ true → IsIn s spots) → now s ≡ true → IsIn s spots
-seen_by has now spot s spots true same put here others told = subst (λ (x : ℕ × ℕ). IsIn x spots) (same_spot spot s same) here
+seen_by : (has now : ℕ × ℕ → Bool) (spot s : ℕ × ℕ) (spots : List (ℕ × ℕ)) (t : Bool) → same_spot spot s ≡ t → now s ≡ cond t true (has s) → IsIn spot spots → (has s ≡ true → IsIn s spots) → now s ≡ true → IsIn s spots
+seen_by has now spot s spots true same put here others told = subst (λ (x : ℕ × ℕ). IsIn x spots) (one_spot spot s same) here
 seen_by has now spot s spots false apart put here others told = others (sym put ∙ told)
 
 -- one place more in a set
-pub seen_more : (has now : ℕ × ℕ → Bool) (spot : ℕ × ℕ) (old new : List (ℕ × ℕ)) → AreSeen has old → ((s : ℕ × ℕ) → now s ≡ cond (is_same_spot spot s) true (has s)) → IsIn spot new → ((s : ℕ × ℕ) → IsIn s old → IsIn s new) → AreSeen now new
-seen_more has now spot old new seen put here stays s told = seen_by has now spot s new (is_same_spot spot s) refl (put s) here (λ was. stays s (seen s was)) told
+pub seen_more : (has now : ℕ × ℕ → Bool) (spot : ℕ × ℕ) (old new : List (ℕ × ℕ)) → AreSeen has old → ((s : ℕ × ℕ) → now s ≡ cond (same_spot spot s) true (has s)) → IsIn spot new → ((s : ℕ × ℕ) → IsIn s old → IsIn s new) → AreSeen now new
+seen_more has now spot old new seen put here stays s told = seen_by has now spot s new (same_spot spot s) refl (put s) here (λ was. stays s (seen s was)) told
 
 -- a place that the set had
-pub seen_there : (has now : ℕ × ℕ → Bool) (spot : ℕ × ℕ) (old : List (ℕ × ℕ)) → AreSeen has old → ((s : ℕ × ℕ) → now s ≡ cond (is_same_spot spot s) true (has s)) → has spot ≡ true → AreSeen now old
+pub seen_there : (has now : ℕ × ℕ → Bool) (spot : ℕ × ℕ) (old : List (ℕ × ℕ)) → AreSeen has old → ((s : ℕ × ℕ) → now s ≡ cond (same_spot spot s) true (has s)) → has spot ≡ true → AreSeen now old
 seen_there has now spot old seen put was = seen_more has now spot old old seen put (seen spot was) (λ s is. is)
 
 -- a place that came
-pub seen_new : (has now : ℕ × ℕ → Bool) (spot : ℕ × ℕ) (old new : List (ℕ × ℕ)) → AreSeen has old → ((s : ℕ × ℕ) → now s ≡ cond (is_same_spot spot s) true (has s)) → new ≡ old ++ spot ∷ [] → AreSeen now new
+pub seen_new : (has now : ℕ × ℕ → Bool) (spot : ℕ × ℕ) (old new : List (ℕ × ℕ)) → AreSeen has old → ((s : ℕ × ℕ) → now s ≡ cond (same_spot spot s) true (has s)) → new ≡ old ++ spot ∷ [] → AreSeen now new
 seen_new has now spot old new seen put is = rw is (seen_more has now spot old (old ++ spot ∷ []) seen put (IsIn-right spot old (spot ∷ []) (inl refl)) (λ s was. IsIn-left s old (spot ∷ []) was))
 
 pub not_not : (b t : Bool) → t ≡ not b → t ≡ false → b ≡ true

@@ -29,8 +29,9 @@ module _ {W M : Type 0} (f : W → M) (I : W → Type 0) (Ran : W → List ℕ �
   ran_for_to w x (Some r) done i a = are_ran_to w r.0.0 r.1 done x i a
 
   -- one line
-  module _ {V : Type 0} (told : Bool) (Stands : List ℕ → V → Type 0) (Plain : V → List ℕ → List ℕ → V → Type 0) (w x : W) (i : I w) (j : I x) (Empty Empty' : List ℕ → Type 0) (Cause Cause' : Option BlockId → No → Type 0)
-      (empty_to : (root : List ℕ) → Empty root → Empty' root) (cause_to : (root : Option BlockId) (refusal : No) → Cause root refusal → Cause' root refusal) (s : State) (text : List ℕ) (t : State) where
+  module _ {V : Type 0} (told : Bool) (Stands : List ℕ → V → Type 0) (Plain : V → List ℕ → List ℕ → V → Type 0) (w x : W) (i : I w) (j : I x) (Empty : W → List ℕ → Type 0) (Empty' : M → List ℕ → Type 0)
+      (Cause : W → Option BlockId → No → W → Type 0) (Cause' : M → Option BlockId → No → M → Type 0)
+      (empty_to : (root : List ℕ) → Empty x root → Empty' (f x) root) (cause_to : (root : Option BlockId) (refusal : No) → Cause w root refusal x → Cause' (f w) root refusal (f x)) (s : State) (text : List ℕ) (t : State) where
     tells_to : (u : W) → I u → (event : Event) → Tells told Stands Plain Ran u x s event text t → Tells told Stands Plain Ran' (f u) (f x) s event text t
     tells_to u k event o = record {
       outcome = o.outcome;
@@ -83,8 +84,8 @@ module _ {W M : Type 0} (f : W → M) (I : W → Type 0) (Ran : W → List ℕ �
     one_to : (w : W) (s : State) (line text : List ℕ) (x : W) (t : State) → I w → I x → Later' (f w) (f x) → AnswersOne (λ u. told' (f u)) Stands Plain Ran Later Empty Cause w s line text x t
         → AnswersOne told' Stands' Plain Ran' Later' Empty' Cause' (f w) s line text (f x) t
     one_to w s line text x t i j later a = record {
-      turn = line_to (told' (f x)) (Stands' (f x)) Plain w x i j (Empty x) (Empty' (f x)) (λ root refusal. Cause w root refusal x) (λ root refusal. Cause' (f w) root refusal (f x)) (λ root e. empty_to x root j e) (λ root refusal c. cause_to w root refusal x i c) s text t line
-          (subst (λ S. LineTurn (told' (f x)) S Plain Ran w x (Empty x) (λ root refusal. Cause w root refusal x) s line text t) (stands_is x j) a.turn);
+      turn = line_to (told' (f x)) (Stands' (f x)) Plain w x i j Empty Empty' Cause Cause' (λ root e. empty_to x root j e) (λ root refusal c. cause_to w root refusal x i c) s text t line
+          (subst (λ S. LineTurn (told' (f x)) S Plain Ran w x Empty Cause s line text t) (stands_is x j) a.turn);
       later = later;
       stays = subst (λ S. Stays (told' (f w)) S (told' (f x)) (Stands' (f x))) (stands_is w i) (subst (λ S. Stays (told' (f w)) (Stands w) (told' (f x)) S) (stands_is x j) a.stays);
     }

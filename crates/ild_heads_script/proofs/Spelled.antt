@@ -38,7 +38,7 @@ pub record GivesOne {V : Type 0} (told : Bool) (Stands : List ℕ → V → Type
 abbrev IsOf : Reading → Deed → Type 0
 IsOf r d = (d ≡ refused N.Memory) ⊎ IsOfReading r d
 
-module _ {W V : Type 0} (told : Bool) (Stands : List ℕ → V → Type 0) (Plain : V → List ℕ → List ℕ → V → Type 0) (Ran : W → List ℕ → List ℕ → List ℕ → List ℕ → W → Type 0) (w x : W) (Empty : List ℕ → Type 0) (Cause : Option BlockId → No → Type 0) (s : State) (text : List ℕ) (t : State) where
+module _ {W V : Type 0} (told : Bool) (Stands : List ℕ → V → Type 0) (Plain : V → List ℕ → List ℕ → V → Type 0) (Ran : W → List ℕ → List ℕ → List ℕ → List ℕ → W → Type 0) (w x : W) (Empty : W → List ℕ → Type 0) (Cause : W → Option BlockId → No → W → Type 0) (s : State) (text : List ℕ) (t : State) where
   of_quiet : (Of : Deed → Type 0) → Of quiet → (text ≡ []) × (t ≡ s) → GivesOne told Stands Plain Of s text t
   of_quiet Of is q = record { deed = quiet; of = is; text_is = q.0; next_is = q.1; given = tt }
 
@@ -133,7 +133,7 @@ module _ {W V : Type 0} (told : W → Bool) (Stands : W → List ℕ → V → T
   pub spelled : (w : W) (s : State) (ls texts' : List (List ℕ)) (x : W) (t : State) → Answers told Stands Plain Ran Later Empty Cause w s ls texts' x t → Spells (told x) (Stands x) Plain s ls texts' t
   spelled w s [] texts' x t a = record { deeds = []; given = refl; texts_are = a.0; state_is = a.1; run = λ y. tt }
   spelled w s (l ∷ ls) texts' x t a =
-      let one = line_gives (told a.0) (Stands a.0) Plain Ran w a.0 (Empty a.0) (λ root refusal. Cause w root refusal a.0) s a.2 a.1 l a.4.turn in
+      let one = line_gives (told a.0) (Stands a.0) Plain Ran w a.0 Empty Cause s a.2 a.1 l a.4.turn in
       spells_more (told x) (Stands x) Plain s l a.2 a.1 ls a.3 t texts' one.deed one.of one.text_is one.next_is
       (deed_stays (told a.0) (Stands a.0) (told x) (Stands x) (answers_stay a.0 a.1 ls a.3 x t a.6) Plain s one.deed one.given) (spelled a.0 a.1 ls a.3 x t a.6) a.5
 

@@ -32,10 +32,10 @@ pub record Tells {W V : Type 0} (told : Bool) (Stands : List ℕ → V → Type 
 abbrev pub TakesEvent : {W V : Type 0} → Bool → (List ℕ → V → Type 0) → (V → List ℕ → List ℕ → V → Type 0) → (W → List ℕ → List ℕ → List ℕ → List ℕ → W → Type 0) → W → W → State → Event → List ℕ → State → Type 0
 TakesEvent told Stands Plain Ran w x s event text t = RefusesEvent N.Memory s text t ⊎ Tells told Stands Plain Ran w x s event text t
 
-module _ {W V : Type 0} (told : Bool) (Stands : List ℕ → V → Type 0) (Plain : V → List ℕ → List ℕ → V → Type 0) (Ran : W → List ℕ → List ℕ → List ℕ → List ℕ → W → Type 0) (w x : W) (Empty : List ℕ → Type 0) (Cause : Option BlockId → No → Type 0) (s : State) where
+module _ {W V : Type 0} (told : Bool) (Stands : List ℕ → V → Type 0) (Plain : V → List ℕ → List ℕ → V → Type 0) (Ran : W → List ℕ → List ℕ → List ℕ → List ℕ → W → Type 0) (w x : W) (Empty : W → List ℕ → Type 0) (Cause : W → Option BlockId → No → W → Type 0) (s : State) where
   -- a line for a head that is refused for a cause
   abbrev pub IsRefused : Option BlockId → List ℕ → State → Type 0
-  IsRefused root text t = (refusal : No) × Cause root refusal × RefusesEvent refusal s text t
+  IsRefused root text t = (refusal : No) × Cause w root refusal x × RefusesEvent refusal s text t
 
   -- a head with a root: the event is given where the root stands for a value, and asks nothing of the work
   abbrev pub HeadTurn : List ℕ → BlockId → List ℕ → State → Type 0
@@ -43,7 +43,7 @@ module _ {W V : Type 0} (told : Bool) (Stands : List ℕ → V → Type 0) (Plai
 
   -- a head with the empty value: the event is given with its root
   abbrev pub EmptyTurn : List ℕ → List ℕ → State → Type 0
-  EmptyTurn name text t = IsRefused None text t ⊎ ((root : BlockId) × (IsTrue told → IsValue Stands root.0) × Empty root.0 × TakesEvent told Stands Plain Ran x x s (E.Head name root) text t)
+  EmptyTurn name text t = IsRefused None text t ⊎ ((root : BlockId) × (IsTrue told → IsValue Stands root.0) × Empty x root.0 × TakesEvent told Stands Plain Ran x x s (E.Head name root) text t)
 
   abbrev pub EventTurn : Event → List ℕ → State → Type 0
   EventTurn (E.Head name root) text t = HeadTurn name root text t

@@ -86,7 +86,7 @@ module _ {W V : Type 0} (told : W → Bool) (Stands : W → List ℕ → V → T
     (Ran : W → List ℕ → List ℕ → List ℕ → List ℕ → W → Type 0) (Later : W → W → Type 0) (Empty : W → List ℕ → Type 0) (Cause : W → Option BlockId → No → W → Type 0) where
   -- one line, with the text of its answer
   pub record AnswersOne (w : W) (s : State) (line text : List ℕ) (x : W) (t : State) : Type 0 where
-    pub turn : LineTurn (told x) (Stands x) Plain Ran w x (Empty x) (λ root refusal. Cause w root refusal x) s line text t
+    pub turn : LineTurn (told x) (Stands x) Plain Ran w x Empty Cause s line text t
     pub later : Later w x
     pub stays : Stays (told w) (Stands w) (told x) (Stands x)
 

@@ -54,7 +54,7 @@ fn take<R: Roots>(heads: &mut Heads, event: Event, work: &mut R) -> Said
 #[tactic(auto, using(crate::proofs::Heading::head_takes))]
 fn make<R: Roots>(heads: &mut Heads, name: Txt, root: BlockId, work: &mut R) -> Said
     requires { IsTrue (R.told work.old) → AreLegal (R.stands work.old) (R.plain (R.rules work.old)) heads.old }
-    ensures said { HeadTurn (R.told work.new) (R.stands work.new) (R.plain (R.rules work.new)) R.ran work.old work.new (R.is_empty work.new) (λ root refusal. R.cause work.old root refusal work.new) heads.old name root (said_text result) heads.new }
+    ensures said { HeadTurn (R.told work.new) (R.stands work.new) (R.plain (R.rules work.new)) R.ran work.old work.new R.is_empty R.cause heads.old name root (said_text result) heads.new }
     ensures legal { IsTrue (R.told work.new) → AreLegal (R.stands work.new) (R.plain (R.rules work.new)) heads.new }
     ensures same { R.rules work.new ≡ R.rules work.old }
     ensures later { R.later work.old work.new }
@@ -69,7 +69,7 @@ fn make<R: Roots>(heads: &mut Heads, name: Txt, root: BlockId, work: &mut R) -> 
 /// Makes a head with the empty value.
 fn make_empty<R: Roots>(heads: &mut Heads, name: Txt, work: &mut R) -> Said
     requires { IsTrue (R.told work.old) → AreLegal (R.stands work.old) (R.plain (R.rules work.old)) heads.old }
-    ensures said { EmptyTurn (R.told work.new) (R.stands work.new) (R.plain (R.rules work.new)) R.ran work.old work.new (R.is_empty work.new) (λ root refusal. R.cause work.old root refusal work.new) heads.old name (said_text result) heads.new }
+    ensures said { EmptyTurn (R.told work.new) (R.stands work.new) (R.plain (R.rules work.new)) R.ran work.old work.new R.is_empty R.cause heads.old name (said_text result) heads.new }
     ensures legal { IsTrue (R.told work.new) → AreLegal (R.stands work.new) (R.plain (R.rules work.new)) heads.new }
     ensures same { R.rules work.new ≡ R.rules work.old }
     ensures later { R.later work.old work.new }
@@ -84,7 +84,7 @@ fn make_empty<R: Roots>(heads: &mut Heads, name: Txt, work: &mut R) -> Said
 /// What an event that a line gives is answered.
 fn event_said<R: Roots>(heads: &mut Heads, event: Event, work: &mut R) -> Said
     requires { IsTrue (R.told work.old) → AreLegal (R.stands work.old) (R.plain (R.rules work.old)) heads.old }
-    ensures said { EventTurn (R.told work.new) (R.stands work.new) (R.plain (R.rules work.new)) R.ran work.old work.new (R.is_empty work.new) (λ root refusal. R.cause work.old root refusal work.new) heads.old event (said_text result) heads.new }
+    ensures said { EventTurn (R.told work.new) (R.stands work.new) (R.plain (R.rules work.new)) R.ran work.old work.new R.is_empty R.cause heads.old event (said_text result) heads.new }
     ensures legal { IsTrue (R.told work.new) → AreLegal (R.stands work.new) (R.plain (R.rules work.new)) heads.new }
     ensures same { R.rules work.new ≡ R.rules work.old }
     ensures later { R.later work.old work.new }
@@ -103,7 +103,7 @@ fn event_said<R: Roots>(heads: &mut Heads, event: Event, work: &mut R) -> Said
 /// Answers a line that isn't empty.
 fn answer_some<R: Roots>(alloc: Global, heads: &mut Heads, line: &[u8], work: &mut R) -> Said
     requires { IsTrue (R.told work.old) → AreLegal (R.stands work.old) (R.plain (R.rules work.old)) heads.old }
-    ensures said { SomeTurn (R.told work.new) (R.stands work.new) (R.plain (R.rules work.new)) R.ran work.old work.new (R.is_empty work.new) (λ root refusal. R.cause work.old root refusal work.new) heads.old line.now (said_text result) heads.new }
+    ensures said { SomeTurn (R.told work.new) (R.stands work.new) (R.plain (R.rules work.new)) R.ran work.old work.new R.is_empty R.cause heads.old line.now (said_text result) heads.new }
     ensures legal { IsTrue (R.told work.new) → AreLegal (R.stands work.new) (R.plain (R.rules work.new)) heads.new }
     ensures same { R.rules work.new ≡ R.rules work.old }
     ensures later { R.later work.old work.new }
@@ -121,7 +121,7 @@ fn answer_some<R: Roots>(alloc: Global, heads: &mut Heads, line: &[u8], work: &m
 /// Answers a line over heads, by the event that it gives, if it gives one.
 pub fn answer<R: Roots>(alloc: Global, heads: &mut Heads, line: &[u8], work: &mut R) -> Said
     requires { IsTrue (R.told work.old) → AreLegal (R.stands work.old) (R.plain (R.rules work.old)) heads.old }
-    ensures said { LineTurn (R.told work.new) (R.stands work.new) (R.plain (R.rules work.new)) R.ran work.old work.new (R.is_empty work.new) (λ root refusal. R.cause work.old root refusal work.new) heads.old line.now (said_text result) heads.new }
+    ensures said { LineTurn (R.told work.new) (R.stands work.new) (R.plain (R.rules work.new)) R.ran work.old work.new R.is_empty R.cause heads.old line.now (said_text result) heads.new }
     ensures legal { IsTrue (R.told work.new) → AreLegal (R.stands work.new) (R.plain (R.rules work.new)) heads.new }
     ensures same { R.rules work.new ≡ R.rules work.old }
     ensures later { R.later work.old work.new }

@@ -44,7 +44,7 @@ pub declared_table : (ast : Ast) → declared_fault (events_of ast) ≡ None →
 declared_table ast h none texts =
     record {
       prelude_first = refl;
-      size = rows_few ast h;
+      size = omega (arith, rows_few ast h);
       within = rows_within ast h;
       named_once = rows_once ast (none_declared (events_of ast) h).again;
       none_circular = none;

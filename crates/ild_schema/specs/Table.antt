@@ -35,11 +35,11 @@ IsWithin count def = (parts_of def ≤ 1024) × All (λ n. n < count) (numbers_o
 abbrev pub AreNamedOnce : List Row → Type 0
 AreNamedOnce rows = (n : ℕ) (r : Row) → n < length rows → is_open (slice_index_or rows n r).origin ≡ true → number_named (slice_index_or rows n r).name (take n rows) ≡ None
 
--- the tables of schemas: the prelude and at most 65,535 types more, of which none is a copy of itself, and whose texts and
--- integers are those of blocks
+-- the tables of schemas: the prelude, at most 65,535 types of a text, and one more that may be made of them, of which none is a
+-- copy of itself, and whose texts and integers are those of blocks
 pub record IsTable (rows : List Row) : Type 0 where
   pub prelude_first : take 8 rows ≡ prelude
-  pub size : length rows ≤ 65543
+  pub size : length rows ≤ 65544
   pub within : All (λ r. IsWithin (length rows) r.def) rows
   pub named_once : AreNamedOnce rows
   pub none_circular : NoneIsCircular rows

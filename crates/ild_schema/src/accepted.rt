@@ -128,4 +128,11 @@ impl Accepted {
     {
         self.schema.names()
     }
+
+    /// The schema, for a table that is made of its rows.
+    pub fn into_schema(self) -> Schema
+        ensures { result ≡ self }
+    {
+        self.schema
+    }
 }

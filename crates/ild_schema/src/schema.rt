@@ -158,4 +158,12 @@ impl Schema {
     {
         &self.names
     }
+
+    /// The rows of the table, and the declared names, for a table that is made of it.
+    pub fn into_rows(self) -> (Vec<Row>, Vec<Txt>)
+        ensures rows { result.0.items ≡ self }
+        ensures names { result.1.items ≡ declared_names self }
+    {
+        (self.rows, self.names)
+    }
 }

@@ -29,8 +29,8 @@ pub record Grows (own : List (List ℕ)) (cs : List (List ℕ × ℕ)) (old new 
   pub leads : Leads own cs new
   pub only : (s : ℕ × ℕ) → IsIn s more → IsOneOf own cs s
 
-abbrev pub is_same_spot : ℕ × ℕ → ℕ × ℕ → Bool
-is_same_spot s t = nat_eq s.0 t.0 && nat_eq s.1 t.1
+abbrev pub same_spot : ℕ × ℕ → ℕ × ℕ → Bool
+same_spot s t = nat_eq s.0 t.0 && nat_eq s.1 t.1
 
 -- what a set has is among these places
 abbrev pub AreSeen : (ℕ × ℕ → Bool) → List (ℕ × ℕ) → Type 0

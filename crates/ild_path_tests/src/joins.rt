@@ -1,6 +1,6 @@
 //! Edits of parts of texts: joined parts, pairs, and texts behind prefixes, in one another. The blocks and refusals were worked out on plain values, by
 //! the plain program of the conformance cases.
-use crate::told::all_so;
+use crate::block_told::all_so;
 use std::test::Fail;
 
 const SRC: &str =

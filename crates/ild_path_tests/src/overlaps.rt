@@ -1,6 +1,6 @@
 //! Three texts joined in one another, whose innermost part stands beside the outermost joint: an edit of it may spell that joint once more, with
 //! the joints between and the letters around it. The blocks and refusals are those of tests/paths/rows.py, which builds each value from scratch.
-use crate::told::all_so;
+use crate::block_told::all_so;
 use std::test::Fail;
 
 const SRC: &str =

@@ -1,5 +1,5 @@
 //! Edits of unions in all six forms, and of what they stand in. The blocks were worked out on plain values, by the plain program of the conformance cases.
-use crate::told::all_so;
+use crate::block_told::all_so;
 use std::test::Fail;
 
 const SRC: &str =
