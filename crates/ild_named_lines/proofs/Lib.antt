@@ -1,0 +1,4 @@
+pub mod Cuts
+pub mod Scripts
+pub mod Texts
+pub mod Readings
