@@ -14,8 +14,8 @@ use Rattle.ild_script.specs.declared.reply.No.{No}
 use Rattle.ild_heads_script.proofs.Spelled.{answers_more, spelled}
 use Rattle.ild_heads_script.specs.Script.{Answers}
 use Rattle.ild_heads_run.specs.Ends.{ends}
-use Rattle.ild_heads_run.specs.Lines.{LineCut, LineDone, LinesCut, LinesDone, joined}
-use Rattle.ild_heads_run.specs.Runs.{RanScript, ScriptCut, ScriptDone, ends_behind}
+use Rattle.ild_heads_run.specs.inside.Lines.{LineCut, LineDone, LinesCut, LinesDone}
+use Rattle.ild_heads_run.specs.Runs.{RanScript, ScriptCut, ScriptDone, ends_behind, joined}
 use Rattle.ild_heads_run.specs.Says.{says_no}
 
 joined_more : (texts : List (List ℕ)) (text : List ℕ) → joined (texts ++ text ∷ []) ≡ joined texts ++ text

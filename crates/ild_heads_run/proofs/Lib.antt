@@ -1,3 +1,4 @@
-pub mod Answered
+mod Answered
 mod Ended
 mod Refusals
+mod Stopped

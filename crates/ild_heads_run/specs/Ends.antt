@@ -1,5 +1,5 @@
 -- The lines that are written at the end of a script: one for each head, in the order of their names.
-use Rattle.std.specs.Prelude.{ℕ, List, [], option_map}
+use Rattle.std.specs.Prelude.{ℕ, List, []}
 use Rattle.std.specs.FinMap as fin
 use Rattle.std.specs.List.{flat_map}
 use Rattle.std.specs.Option.{option_map_or}
@@ -9,7 +9,7 @@ use Rattle.ild_heads_lines.specs.Told.{head_text}
 
 -- that of the head with a name
 abbrev pub end_of : State → List ℕ → List ℕ
-end_of s name = option_map_or (λ root. head_text name root) (option_map (λ h. h.root) (head_at s name)) []
+end_of s name = option_map_or (λ h. head_text name h.root) (head_at s name) []
 
 abbrev pub ends : State → List ℕ
 ends s = flat_map (end_of s) (fin.keys s.heads)

@@ -1,4 +1,4 @@
 pub mod Says
 pub mod Ends
-pub mod Lines
 pub mod Runs
+pub mod inside

@@ -1,6 +1,6 @@
 -- What running a script over named heads leaves, and what is written: the texts of its lines, and the heads at its end.
 use Rattle.std.specs.Prelude.{◌≡◌, ℕ, List, [], ◌∷◌, ◌++◌, Bool, IsTrue, Option}
-use Rattle.std.specs.List.{list_any}
+use Rattle.std.specs.List.{flat_map, list_any}
 use Rattle.ild_data.specs.declared.id.BlockId.{BlockId}
 use Rattle.ild_edges.specs.Sink.{Appends, AppendsFront}
 use Rattle.ild_heads.specs.Legal.{AreLegal}
@@ -8,8 +8,11 @@ use Rattle.ild_heads.specs.State.{State, nothing}
 use Rattle.ild_script.specs.declared.reply.No.{No}
 use Rattle.ild_heads_script.specs.Script.{Answers, Spells}
 use Rattle.ild_heads_run.specs.Ends.{ends}
-use Rattle.ild_heads_run.specs.Lines.{joined}
 use Rattle.ild_heads_run.specs.Says.{says_no}
+
+-- the texts of lines, one behind the other
+abbrev pub joined : List (List ℕ) → List ℕ
+joined = flat_map (λ text. text)
 
 -- what is written behind the texts of lines, where these are left: the heads, once none is
 abbrev pub ends_behind : List (List ℕ) → State → List ℕ

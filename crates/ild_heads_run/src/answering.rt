@@ -4,7 +4,7 @@ ghost use Rattle.ild_edges.specs.Count.{Rose};
 ghost use Rattle.ild_heads.specs.Legal.{AreLegal};
 ghost use Rattle.ild_script.specs.Line.{lines_of};
 ghost use Rattle.ild_script_session.specs.declared.cut.Cut.TheVariants as cut;
-ghost use Rattle.ild_heads_run.specs.Lines.{LineDone, LineCut, LinesDone, LinesCut};
+ghost use Rattle.ild_heads_run.specs.inside.Lines.{LineDone, LineCut, LinesDone, LinesCut};
 
 use crate::lines::cut_line;
 use crate::saying::say;

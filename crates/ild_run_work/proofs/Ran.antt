@@ -23,7 +23,7 @@ use Rattle.ild_open_parts.specs.declared.fault.OpenFault.{OpenFault}
 use Rattle.ild_open_parts.specs.declared.fault.OpenFault.TheVariants as F
 use Rattle.ild_path_edits.specs.Judged.{Tests, AreTests}
 use Rattle.ild_run_standing.specs.Answers.{AnswersAs, LeadsOn}
-use Rattle.ild_run_standing.specs.Blame.{IsBroken}
+use Rattle.ild_run_standing.specs.Blame.{HasClash, IsBroken}
 use Rattle.ild_run_standing.specs.Laws.{HeldAreStanding, StandingAreAt, StillReplies}
 use Rattle.ild_run_standing.specs.Standing.{IsHeldAt, setting_of}
 use Rattle.ild_schema.specs.Legible.{IsLegible}
@@ -57,15 +57,16 @@ Answered w a m v reply n = ((Some reply ≡ (due_on w v a).reply) × (idle v ≡
 
 module _ (still : StillReplies) (rules : Rules) (a : Ask) (root : List ℕ) where
   stays : (m n : Moment) → OnlyReads m n → n.gets ≤ m.gets + 1 → (reply : Reply) → ((id : BlockId) → reply ≡ R.Root id → id.0 ≡ root) → (reply ≡ R.No N.Store → Rose m.faults n.faults)
-      → (reply ≡ R.No N.Block → ∥ BlamesBlock rules root m n ∥₁)
+      → (reply ≡ R.No N.Block → ∥ BlamesBlock rules root m n ∥₁) → (reply ≡ R.No N.Clash → HasClash n)
       → ((held : List (List ℕ)) (tests : Tests) (v : Value) → m.blocks ≡ Some held → StandsAmong rules held root v → Answered (setting_by rules tests) a m v reply n) → Runs rules a m root root reply n
-  stays m n only few reply rooted failed blamed answered = record {
+  stays m n only few reply rooted failed blamed clashed answered = record {
     later = only.later;
     kept = λ refusal is. refl;
     told = λ t path is. refl;
     rooted = rooted;
     failed = failed;
     blamed = blamed;
+    clashed = clashed;
     leads = λ held tests v told are st. let same = only.puts in record {
       next = v;
       stands = record { there = λ now is. subst (λ (z : List (List ℕ)). StandsAmong rules z root v) (same_Some held now (sym told ∙ sym only.blocks ∙ is)) st };
@@ -75,11 +76,11 @@ module _ (still : StillReplies) (rules : Rules) (a : Ask) (root : List ℕ) wher
 
   -- it is outside the grammar here
   pub outside_stays : (m : Moment) → own_ask a ≡ unknown → Runs rules a m root root (R.No N.Line) m
-  outside_stays m is = stays m m (reads_none m) (omega arith) (R.No N.Line) (λ id e. absurd cc) (λ e. absurd cc) (λ e. absurd cc)
+  outside_stays m is = stays m m (reads_none m) (omega arith) (R.No N.Line) (λ id e. absurd cc) (λ e. absurd cc) (λ e. absurd cc) (λ e. absurd cc)
       (λ held tests v told st. inl (sym (ap (λ z. (due (setting_by rules tests) z (idle v)).reply) is), sym (ap (λ z. (due (setting_by rules tests) z (idle v)).next) is)))
 
   pub memory_stays : (m : Moment) → Runs rules a m root root (R.No N.Memory) m
-  memory_stays m = stays m m (reads_none m) (omega arith) (R.No N.Memory) (λ id e. absurd cc) (λ e. absurd cc) (λ e. absurd cc) (λ held tests v told st. inr (inl tt))
+  memory_stays m = stays m m (reads_none m) (omega arith) (R.No N.Memory) (λ id e. absurd cc) (λ e. absurd cc) (λ e. absurd cc) (λ e. absurd cc) (λ held tests v told st. inr (inl tt))
 
 root_in : Reply → List ℕ
 root_in (R.Root id) = id.0
@@ -92,7 +93,7 @@ same_root id other e = ap root_in e
 
 -- the root is told
 pub root_stays : StillReplies → (rules : Rules) (m : Moment) (id : BlockId) → Runs rules to_tell_root m id.0 id.0 (R.Root id) m
-root_stays still rules m id = stays still rules to_tell_root id.0 m m (reads_none m) (omega arith) (R.Root id) (λ other e. sym (same_root id other e)) (λ e. absurd cc) (λ e. absurd cc)
+root_stays still rules m id = stays still rules to_tell_root id.0 m m (reads_none m) (omega arith) (R.Root id) (λ other e. sym (same_root id other e)) (λ e. absurd cc) (λ e. absurd cc) (λ e. absurd cc)
     (λ held tests v told st. inl (ap Some (ap (λ (i : List ℕ). R.Root (record { 0 = i })) st.root ∙ sym (ap (λ o. R.Root (record { 0 = option_map_or (root_id bare) o [] })) st.storable.tree)), refl))
 
 -- ---- where the block isn't found
@@ -120,8 +121,14 @@ module _ (rules : Rules) (schema : IsSchema rules.rows) (legible : IsLegible rul
   blamed_find F.Store x e = absurd cc
   blamed_find F.Memory x e = absurd cc
 
+  -- nothing is put that could clash
+  clashed_find : (fault : OpenFault) → R.No (found_refusal fault) ≡ R.No N.Clash → HasClash n
+  clashed_find (F.Block at why) e = absurd cc
+  clashed_find F.Store e = absurd cc
+  clashed_find F.Memory e = absurd cc
+
   pub not_found : StillReplies → (fault : OpenFault) → GetFinds rules.rows rules.ty root m (Err fault) n → Runs rules a m root root (R.No (found_refusal fault)) n
-  not_found still fault x = stays still rules a root m n x.only x.gets (R.No (found_refusal fault)) (rootless fault) (failed_find fault x) (blamed_find fault x) (answered_find fault x)
+  not_found still fault x = stays still rules a root m n x.only x.gets (R.No (found_refusal fault)) (rootless fault) (failed_find fault x) (blamed_find fault x) (clashed_find fault) (answered_find fault x)
 
 -- ---- where it was asked
 
@@ -269,6 +276,7 @@ module _ (standing : StandingAreAt) (back : HeldAreStanding) (rules : Rules) (a 
     told = λ t path is. ap id_of (ans.told t path is) ∙ named;
     rooted = λ id is. ans.rooted id (ap Some is);
     blamed = λ is. broken (ans.blamed (ap Some is));
+    clashed = λ is. ans.clashed (ap Some is);
     failed = λ is. let up : Rose k.faults n.faults = ans.failed (ap Some is) in let le = found.only.later.faults in omega (arith, le, up);
     leads = λ held tests v told are st. leads_to held tests v told are st;
   }

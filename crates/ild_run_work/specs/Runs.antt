@@ -18,6 +18,7 @@ use Rattle.ild_script_meaning.specs.Ask.{Ask, Tell, asked, to_tell}
 use Rattle.ild_script_meaning.specs.Lines.{Setting, typed_lines}
 use Rattle.ild_script_session.specs.Session.{Due, resting}
 use Rattle.ild_script_session.specs.Step.{Replies}
+use Rattle.ild_run_standing.specs.Blame.{HasClash}
 use Rattle.ild_run_work.specs.Plain.{due_on}
 use Rattle.ild_run_work.specs.Rules.{Rules, RootRules, StandsAmong, StandsIn, setting_by}
 
@@ -39,8 +40,8 @@ pub record BlamesBlock (rules : Rules) (root : List ℕ) (m n : Moment) : Type 0
   pub refused : IsRefused id_of rules.rows m.blocks m.lacks n.lacks rules.ty root id why
 
 -- Of every store: what was held is held, a refusal and a read leave the root, and a root that is told is the one to which the line leads.
--- That the store failed is told only where it did, and a block is blamed only where one is broken. From the value that stands under the
--- root, whichever the tests of its table are: the reply due.
+-- That the store failed is told only where it did, a block is blamed only where one is broken, and a clash is told only where there is one.
+-- From the value that stands under the root, whichever the tests of its table are: the reply due.
 pub record Runs (rules : Rules) (a : Ask) (m : Moment) (root to : List ℕ) (reply : Reply) (n : Moment) : Type 0 where
   pub later : Later m n
   pub kept : (refusal : No) → reply ≡ R.No refusal → to ≡ root
@@ -48,6 +49,7 @@ pub record Runs (rules : Rules) (a : Ask) (m : Moment) (root to : List ℕ) (rep
   pub rooted : (id : BlockId) → reply ≡ R.Root id → id.0 ≡ to
   pub failed : reply ≡ R.No N.Store → Rose m.faults n.faults
   pub blamed : reply ≡ R.No N.Block → ∥ BlamesBlock rules root m n ∥₁
+  pub clashed : reply ≡ R.No N.Clash → HasClash n
   pub leads : (held : List (List ℕ)) (tests : Tests) (v : Value) → m.blocks ≡ Some held → AreTests rules.rows tests → StandsAmong rules held root v
       → LeadsTo rules (setting_by rules tests) a m v to reply n
 

@@ -1,12 +1,9 @@
-use Rattle.std.proofs.Common.{Result, Ok, Err, OnErr, ◌∙◌, arith}
+use Rattle.std.proofs.Common.{◌∙◌, arith}
 use Rattle.ild_script.specs.Line.{lines_of}
 use Rattle.ild_script_session.specs.Lines.{lines_left}
 use Rattle.ild_heads_run.proofs.Answered.{cut_by, done_by, so_far_cut, so_far_more}
+use Rattle.ild_heads_run.proofs.Stopped.{on_err_always}
 use Rattle.ild_heads_run.proofs.answering.answer_all.Goals as goal
-
-on_err_always : {T E : Type 0} (r : Result T E) (P : Type 0) → P → OnErr r P
-on_err_always (Ok x) P p = tt
-on_err_always (Err e) P p = p
 
 pub loop-rest-preserved : goal.loop-rest-preserved
 loop-rest-preserved g c =

@@ -1,14 +1,11 @@
-use Rattle.std.proofs.Common.{◌≡◌, Result, Ok, Err, OnErr, List, ℕ, subst, ◌∙◌}
+use Rattle.std.proofs.Common.{◌≡◌, List, ℕ, subst, ◌∙◌}
 use Rattle.std.specs.FinMap as fin
 use Rattle.std.specs.List.{flat_map}
 use Rattle.ild_edges.specs.Sink.{AppendsFront}
 use Rattle.ild_heads_run.specs.Ends.{end_of}
 use Rattle.ild_heads_run.proofs.Ended.{one_cut}
+use Rattle.ild_heads_run.proofs.Stopped.{on_err_always}
 use Rattle.ild_heads_run.proofs.ending.write_heads.Goals as goal
-
-on_err_always : {T E : Type 0} (r : Result T E) (P : Type 0) → P → OnErr r P
-on_err_always (Ok x) P p = tt
-on_err_always (Err e) P p = p
 
 pub returns-in_err-write_head-clause-err : goal.returns-in_err-write_head-clause-err
 returns-in_err-write_head-clause-err g c =

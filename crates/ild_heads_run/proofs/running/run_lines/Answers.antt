@@ -1,12 +1,8 @@
-use Rattle.std.proofs.Common.{Result, Ok, Err, OnErr}
 use Rattle.ild_script.specs.Line.{lines_of}
 use Rattle.ild_heads_run.proofs.Answered.{ends_cut, first_legal, legal_by, lines_cut, script_done}
-use Rattle.ild_heads_run.specs.Lines.{LinesCut, LinesDone}
+use Rattle.ild_heads_run.specs.inside.Lines.{LinesCut, LinesDone}
+use Rattle.ild_heads_run.proofs.Stopped.{on_err_always}
 use Rattle.ild_heads_run.proofs.running.run_lines.Goals as goal
-
-on_err_always : {T E : Type 0} (r : Result T E) (P : Type 0) → P → OnErr r P
-on_err_always (Ok x) P p = tt
-on_err_always (Err e) P p = p
 
 pub answer_all-requires : goal.answer_all-requires
 answer_all-requires g c told = first_legal _ _ c.new-heads.result c.new-heads.ensures

@@ -1,16 +1,13 @@
--- What answering lines over named heads leaves, and what is written.
+-- Lines over named heads, answered one after another, and what is written of them.
 use Rattle.std.specs.Prelude.{◌≡◌, ℕ, List, ◌++◌, Bool, Option}
-use Rattle.std.specs.List.{flat_map, list_any}
+use Rattle.std.specs.List.{list_any}
 use Rattle.ild_data.specs.declared.id.BlockId.{BlockId}
 use Rattle.ild_edges.specs.Sink.{Appends, AppendsFront}
 use Rattle.ild_heads.specs.State.{State}
 use Rattle.ild_script.specs.declared.reply.No.{No}
 use Rattle.ild_heads_script.specs.Script.{Answers, AnswersOne}
+use Rattle.ild_heads_run.specs.Runs.{joined}
 use Rattle.ild_heads_run.specs.Says.{says_no}
-
--- the texts of lines, one behind the other
-abbrev pub joined : List (List ℕ) → List ℕ
-joined = flat_map (λ text. text)
 
 module _ {W V : Type 0} (told : W → Bool) (Stands : W → List ℕ → V → Type 0) (Plain : V → List ℕ → List ℕ → V → Type 0)
     (Ran : W → List ℕ → List ℕ → List ℕ → List ℕ → W → Type 0) (Later : W → W → Type 0) (Empty : W → List ℕ → Type 0) (Cause : W → Option BlockId → No → W → Type 0) where
