@@ -6,16 +6,14 @@
 What is due on each line stands behind it, by hand, and the lines at the end behind all; the CIDs are worked out from the values that they name.
 """
 import pathlib
-import shutil
 import sys
 
 sys.dont_write_bytecode = True
 import new_cases
 import values
-from new_cases import HAMT
+from new_cases import HAMT, NO_WORDS
 
 MAP = "type N {String:Int}\n"
-WORDS = ("fault 2 words\n", 2)
 
 
 def block_of(data):
@@ -179,23 +177,18 @@ def no_roots(folder):
 def before_scripts(folder):
     good = "head h -\n"
     for name, (source, ty, script, told) in {
-        "type-that-is-none": (MAP, "M", good, WORDS), "type-before-the-script": (MAP, "M", None, WORDS), "schema-absent": (None, "N", good, ("fault 5 input schema absent\n", 5)),
+        "type-that-is-none": (MAP, "M", good, NO_WORDS), "type-before-the-script": (MAP, "M", None, NO_WORDS), "schema-absent": (None, "N", good, ("fault 5 input schema absent\n", 5)),
         "schema-at-fault": ("type A float\n", "A", None, ("fault 3 schema resolve 3 float at 7\n", 3)), "script-absent": (MAP, "N", None, ("fault 5 input script absent\n", 5)),
         "script-long": (MAP, "N", "\n" * 16_777_217, ("fault 5 input script long\n", 5)), "type-of-the-prelude": ("", "Map", good, (f"ok null\nhead h {cid_of(E)}\n", 0)),
     }.items():
         inputs = {role: text for role, text in (("s", source), ("x", script)) if text is not None}
         new_cases.write(f"heads-{name}", ["heads", "s", ty, "x"], inputs, *told, folder=folder)
-    one = {"s": MAP, "x": good}
-    for name, words in {"a-word-less": ["heads", "s", "N"], "a-word-more": ["heads", "s", "N", "x", "x"], "a-start": ["heads", "s", "N", "-", "x"], "upper-case": ["Heads", "s", "N", "x"], "head": ["head", "s", "N", "x"]}.items():
-        new_cases.write(f"heads-words-{name}", words, one, *WORDS, folder=folder)
+    words = {"a-word-less": ["heads", "s", "N"], "a-word-more": ["heads", "s", "N", "x", "x"], "a-start": ["heads", "s", "N", "-", "x"], "upper-case": ["Heads", "s", "N", "x"], "head": ["head", "s", "N", "x"]}
+    new_cases.write_words("heads-", words, {"s": MAP, "x": good}, folder)
 
 
 def write_all(folder):
-    shutil.rmtree(folder, ignore_errors=True)
-    sessions(folder)
-    no_lines(folder)
-    no_roots(folder)
-    before_scripts(folder)
+    new_cases.write_parts(folder, sessions, no_lines, no_roots, before_scripts)
 
 
 if __name__ == "__main__":

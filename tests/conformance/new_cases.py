@@ -19,6 +19,7 @@ import values
 HERE = pathlib.Path(__file__).resolve().parent
 LEAF = "bafyreigbtj4x7ip5legnfznufuopl4sg4knzc2cof6duas4b3q2fy6swua"
 RAW = "bafkreie7q3iidccmpvszul7kudcvvuavuo7u6gzlbobczuk5nqk3b4akba"
+NO_WORDS = ("fault 2 words\n", 2)
 JOIN = ' representation stringjoin { join ":" }\n'
 PAIRS = ' representation stringpairs { innerDelim "=" entryDelim "&" }\n'
 
@@ -532,6 +533,19 @@ def write(name, words, inputs, text, status, blocks=(), held=(), folder="new", o
         (case / "blocks" / name).write_bytes(content)
 
 
+def write_words(front, words_by_name, inputs, folder):
+    """Words that have no form, each under its name."""
+    for name, words in words_by_name.items():
+        write(f"{front}words-{name}", words, inputs, *NO_WORDS, folder=folder)
+
+
+def write_parts(folder, *parts):
+    """The cases of these parts, in a folder made anew."""
+    shutil.rmtree(folder, ignore_errors=True)
+    for part in parts:
+        part(folder)
+
+
 def write_value(name, source, ty, json, meant):
     text, status, blocks = values.answer(bytes_of(source), ty, bytes_of(json))
     if not text.startswith("root " if meant == "root" else f"fault {meant}\n"):
@@ -557,8 +571,7 @@ def main():
     write_value("schema-at-fault", "type A float\n", "A", "1", "3 schema resolve 3 float at 7")
     write_value("schema-not-accepted", "type A {Int:Int}\n", "B", "1", "3 schema accept 11 mapkey at 8")
     one = {"s": "type A int\n", "v": "1"}
-    for name, words in {"a-word-less": ["new", "s", "A"], "a-word-more": ["new", "s", "A", "v", "v"], "upper-case": ["New", "s", "A", "v"]}.items():
-        write(f"words-{name}", words, one, "fault 2 words\n", 2)
+    write_words("", {"a-word-less": ["new", "s", "A"], "a-word-more": ["new", "s", "A", "v", "v"], "upper-case": ["New", "s", "A", "v"]}, one, "new")
     write("schema-absent", ["new", "t", "A", "v"], one, "fault 5 input schema absent\n", 5)
     write("value-absent", ["new", "s", "A", "w"], one, "fault 5 input value absent\n", 5)
     write("type-before-the-value", ["new", "s", "B", "w"], one, "fault 2 words\n", 2)

@@ -75,6 +75,11 @@ def way(found, pairs, key):
         yield values.spelled(found.node(there, level))
 
 
+def json_of(blocks):
+    """The DAG-JSON of a proof: the list of its blocks, each as bytes."""
+    return "[%s]" % ",".join('{"/":{"bytes":"%s"}}' % values.json_form(block)["/"]["bytes"] for block in blocks)
+
+
 def told(says):
     """What `verify` writes of what a proof says, and the status."""
     if says[0] == "absent":

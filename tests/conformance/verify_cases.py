@@ -7,7 +7,6 @@ What `PATHS` asks of each path is told by hand, and `proofs.py` works out the pr
 and the script ends. No case has a folder of blocks.
 """
 import pathlib
-import shutil
 import sys
 
 sys.dont_write_bytecode = True
@@ -15,12 +14,12 @@ import new_cases
 import proofs
 import show_cases
 import values
-from new_cases import HAMT, alike, bytes_of, entries, octets
+from new_cases import HAMT, NO_WORDS, alike, bytes_of, entries, octets
 from show_cases import node, node_of, over, root_map
 
 REFUSED = ("fault 9 value 16 proof\n", 9)
-WORDS = ("fault 2 words\n", 2)
 FOUR = alike(4, 1)
+DEEPER = alike(4, 2)
 NEXT = next(f"n{n}" for n in range(10_000) if values.hash_of(f"n{n}")[0] == values.hash_of(FOUR[0])[0])
 LONG = "x" * 4_194_299
 FORMS = """type Form struct {
@@ -52,6 +51,7 @@ DEEP = "type G {String:H} representation advanced HAMT\n" + HAMT
 PATHS = {
     "abc": (HAMT, "H", '{"abc":1}', [(["abc"], "ok 1"), (["x"], "absent"), (["abc", "x"], "absent")]),
     "four": (HAMT, "H", entries(FOUR), [([key], "ok 1") for key in FOUR] + [([NEXT], "absent"), (["abc"], "absent"), ([""], "absent")]),
+    "deeper": (HAMT, "H", entries(DEEPER), [([key], "ok 1") for key in DEEPER] + [(["abc"], "absent")]),
     "none": (HAMT, "H", "{}", [(["a"], "absent"), ([""], "absent")]),
     "deep": (DEEP, "G", entries(FOUR, entries(FOUR)), [([FOUR[0], FOUR[1]], "ok 1"), ([FOUR[0], NEXT], "absent"), ([NEXT, FOUR[0]], "absent"), ([FOUR[0], "abc"], "absent")]),
     "forms": (
@@ -73,9 +73,12 @@ PATHS = {
     "long": (f'type S struct {{ t String (implicit "{LONG}") }}\n', "S", "{}", [(["t"], f'ok "{LONG}"'), (["t", "x"], "absent")]),
 }
 
+# What is no path in words, and what is no root.
+NO_PATHS = {"without-slash": "a", "empty": "", "two-spaces": "/a b", "tilde": "/a~", "tilde-9": "/~9", "dot-behind": "/a/.x y", "slash-dot": ".a", "space": " "}
 
-def proof_text(blocks):
-    return "[%s]" % ",".join(octets(values.json_form(block)["/"]["bytes"]) for block in blocks)
+
+def no_root_texts(root):
+    return {"a-dash": "-", "empty": "", "raw": new_cases.RAW, "upper-case": root.upper(), "cut-off": root[:-1]}
 
 
 def write_case(folder, name, source, ty, root, path, proof, told):
@@ -99,7 +102,7 @@ def write_damaged(folder, name, source, ty, path, blocks, told):
     """The proof, and the same with one block less, twice, elsewhere or more."""
     root, stray = values.cid_text(blocks[0]), values.spelled(["stray"])
     if len(blocks[0]) > 100_000 or len(source) > 100_000:
-        return write_case(folder, name, source, ty, root, path, proof_text(blocks), told)
+        return write_case(folder, name, source, ty, root, path, proofs.json_of(blocks), told)
     for way, (given, due) in {
         "": (blocks, told),
         "-less": (blocks[:-1], REFUSED),
@@ -110,8 +113,8 @@ def write_damaged(folder, name, source, ty, path, blocks, told):
         "-stray-last": ([*blocks, stray], REFUSED),
         "-stray-for-the-last": ([*blocks[:-1], stray], REFUSED),
     }.items():
-        write_case(folder, name + way, source, ty, root, path, proof_text(given), due)
-    write_case(folder, f"{name}-root-of-another", source, ty, values.cid_text(stray), path, proof_text(blocks), REFUSED)
+        write_case(folder, name + way, source, ty, root, path, proofs.json_of(given), due)
+    write_case(folder, f"{name}-root-of-another", source, ty, values.cid_text(stray), path, proofs.json_of(blocks), REFUSED)
 
 
 def no_proofs(folder):
@@ -129,7 +132,7 @@ def no_proofs(folder):
 
 
 def write_blocks(folder, name, source, ty, path, blocks, told):
-    write_case(folder, name, source, ty, values.cid_text(blocks[0]), proofs.path_text(path), proof_text(blocks), told)
+    write_case(folder, name, source, ty, values.cid_text(blocks[0]), proofs.path_text(path), proofs.json_of(blocks), told)
 
 
 def no_roots(folder):
@@ -171,31 +174,25 @@ def no_children(folder):
 
 def before_proofs(folder):
     block = values.spelled(1)
-    root, good, source = values.cid_text(block), proof_text([block]), "type A int\n"
-    for name, path in {"without-slash": "a", "empty": "", "two-spaces": "/a b", "tilde": "/a~", "tilde-9": "/~9", "dot-behind": "/a/.x y", "slash-dot": ".a", "space": " "}.items():
-        write_case(folder, f"path-{name}", source, "A", root, path, good, WORDS)
+    root, good, source = values.cid_text(block), proofs.json_of([block]), "type A int\n"
+    for name, path in NO_PATHS.items():
+        write_case(folder, f"path-{name}", source, "A", root, path, good, NO_WORDS)
     for name, path in {"slash": "/", "slashes": "//", "dot-segment": "/.", "tilde-0": "/~0"}.items():
         write_case(folder, f"path-{name}", source, "A", root, path, good, ("absent\n", 0))
-    for name, text in {"a-dash": "-", "empty": "", "raw": new_cases.RAW, "upper-case": root.upper(), "cut-off": root[:-1]}.items():
-        write_case(folder, f"root-text-{name}", source, "A", text, ".", good, WORDS)
-    write_case(folder, "type-that-is-none", source, "B", root, ".", good, WORDS)
-    write_case(folder, "type-before-the-proof", source, "B", root, ".", None, WORDS)
-    write_case(folder, "path-before-the-schema", None, "A", root, "a", good, WORDS)
+    for name, text in no_root_texts(root).items():
+        write_case(folder, f"root-text-{name}", source, "A", text, ".", good, NO_WORDS)
+    write_case(folder, "type-that-is-none", source, "B", root, ".", good, NO_WORDS)
+    write_case(folder, "type-before-the-proof", source, "B", root, ".", None, NO_WORDS)
+    write_case(folder, "path-before-the-schema", None, "A", root, "a", good, NO_WORDS)
     write_case(folder, "schema-absent", None, "A", root, ".", good, ("fault 5 input schema absent\n", 5))
     write_case(folder, "schema-at-fault", "type A float\n", "A", root, ".", None, ("fault 3 schema resolve 3 float at 7\n", 3))
     write_case(folder, "proof-absent", source, "A", root, ".", None, ("fault 5 input proof absent\n", 5))
-    one = {"s": source, "p": good}
-    for name, words in {"a-word-less": ["verify", "s", "A", root, "."], "a-word-more": ["verify", "s", "A", root, ".", "p", "p"], "upper-case": ["Verify", "s", "A", root, ".", "p"], "of-run": ["run", "s", "A", root, ".", "p"]}.items():
-        new_cases.write(f"verify-words-{name}", words, one, *WORDS, folder=folder)
+    words = {"a-word-less": ["verify", "s", "A", root, "."], "a-word-more": ["verify", "s", "A", root, ".", "p", "p"], "upper-case": ["Verify", "s", "A", root, ".", "p"], "of-run": ["run", "s", "A", root, ".", "p"]}
+    new_cases.write_words("verify-", words, {"s": source, "p": good}, folder)
 
 
 def write_all(folder):
-    shutil.rmtree(folder, ignore_errors=True)
-    paths_of_values(folder)
-    no_proofs(folder)
-    no_roots(folder)
-    no_children(folder)
-    before_proofs(folder)
+    new_cases.write_parts(folder, paths_of_values, no_proofs, no_roots, no_children, before_proofs)
 
 
 if __name__ == "__main__":

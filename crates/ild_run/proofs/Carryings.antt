@@ -12,6 +12,8 @@ use Rattle.ild_run.specs.declared.status.Status.{Status}
 use Rattle.ild_run.proofs.Endings.{ended_listed, ended_made, ended_shown, ended_answered}
 use Rattle.ild_run.proofs.Headings.{ended_headed}
 use Rattle.ild_run.proofs.Matchings.{ended_matched}
+use Rattle.ild_run.proofs.Namings.{ended_moved}
+use Rattle.ild_run.proofs.Seekings.{ended_sought}
 use Rattle.ild_run.proofs.Weighings.{ended_weighed}
 
 pub ended_task : (c : Call) (job : Job) (t : Taking) (task : Task) (status : Status) → c.job ≡ Some job → IsTaking job c.before.supply t → job_work job t ≡ work_seen task
@@ -23,3 +25,5 @@ ended_task c job t (P.Create rows n b) status named a work done = ended_made c j
 ended_task c job t (P.Show rows n id) status named a work done = ended_shown c job t rows n id.0 status named a work done
 ended_task c job t (P.Verify rows n id path b) status named a work done = ended_weighed c job t rows n id.0 path.now b status named a work done.1 done.0
 ended_task c job t (P.Serve rows n b) status named a work done = ended_headed c job t rows n b status named a work done
+ended_task c job t (P.Prove rows n id path) status named a work done = ended_sought c job t rows n id.0 path.now status named a work done
+ended_task c job t (P.Migrate rows n id name source) status named a work done = ended_moved c job t rows n id.0 name.now source status named a work done

@@ -10,12 +10,15 @@ use Rattle.ild_schema.specs.declared.number.TypeNo.{TypeNo}
 use Rattle.ild_schema.specs.declared.row.Row.{Row}
 use Rattle.ild_run.specs.Work.{Work, Taking, ends, lists, answers, makes, opens, compiled_work, schema_work, job_work, work_of, IsVerdict, IsTaking, AreTaken}
 use Rattle.ild_run.specs.Words.{Job, checks}
-use Rattle.ild_run.specs.Ended.{Call, IsDue, AsksScript, TriesValue, ReadsRoot, Says, Ended}
+use Rattle.ild_run.specs.Ended.{Call, IsDue, Says, Ended}
 use Rattle.ild_run.specs.Complete.{IsGivenSchema, IsCalm, IsComplete}
 use Rattle.ild_run.proofs.CompletesHeads.{kept_by}
+use Rattle.ild_run.proofs.CompletesMove.{moved_by}
 use Rattle.ild_run.proofs.CompletesPair.{compared_by}
+use Rattle.ild_run.proofs.CompletesPath.{proved_by}
 use Rattle.ild_run.proofs.CompletesProof.{verified_by}
-use Rattle.ild_run.proofs.Matchings.{other_sort}
+use Rattle.ild_run.proofs.Matchings.{asks_not, other_sort}
+use Rattle.ild_run.proofs.Namings.{refuses_move}
 use Rattle.ild_run.specs.Listed.{Lists}
 use Rattle.ild_run.proofs.CompletesValue.{created_by}
 use Rattle.ild_run.proofs.CompletesRoot.{shown_by}
@@ -64,11 +67,6 @@ no_check_root : (w : Work) (rows opened : List Row) (n : TypeNo) (id : List ℕ)
 no_check_root w rows opened n id (inl is) work = let e : lists (declared_names rows) ≡ opens opened n id = sym is ∙ work in cc
 no_check_root w rows opened n id (inr is) work = let e : ends F.Memory ≡ opens opened n id = sym is ∙ work in cc
 
-no_check_store : (c : Call) (t : Taking) (rows : List Row) → Checks (work_of c.job t) rows → AsksScript c t ⊎ (TriesValue c t ⊎ ReadsRoot c t) → ⊥
-no_check_store c t rows is (inl asks) = no_check_answers (work_of c.job t) rows asks.script.rows asks.script.type asks.script.start asks.script.bytes is asks.script.work
-no_check_store c t rows is (inr (inr reads)) = no_check_root (work_of c.job t) rows reads.opened.rows reads.opened.type reads.opened.root is reads.opened.work
-no_check_store c t rows is (inr (inl tries)) = no_check_value (work_of c.job t) rows tries.value.rows tries.value.type tries.value.bytes is tries.value.work
-
 no_check_fault : (c : Call) (rows : List Row) (given : IsGivenSchema c rows) (calm : IsCalm c) (t : Taking) (f : Fault) → AreTaken c.job c.before.supply t → IsDue c t f → f ≡ F.Memory
 no_check_fault c rows given calm t F.Memory taken due = refl
 no_check_fault c rows given calm t F.Words taken due = absurd (no_check_end (work_of c.job t) F.Words rows (checked_work c rows given t taken) (λ e. cc) due)
@@ -76,14 +74,18 @@ no_check_fault c rows given calm t (F.Schema f) taken due = absurd (no_check_end
 no_check_fault c rows given calm t (F.Input role T.Failed) taken due = absurd (calm.inputs due.0)
 no_check_fault c rows given calm t (F.Input role T.Absent) taken due = absurd (no_check_end (work_of c.job t) (F.Input role T.Absent) rows (checked_work c rows given t taken) (λ e. cc) due.0)
 no_check_fault c rows given calm t (F.Input role T.Long) taken due = absurd (no_check_end (work_of c.job t) (F.Input role T.Long) rows (checked_work c rows given t taken) (λ e. cc) due.0)
-no_check_fault c rows given calm t F.Store taken due = absurd (no_check_store c t rows (checked_work c rows given t taken) due.1)
+no_check_fault c rows given calm t F.Store taken due = absurd (asks_not c t _ (checked_work c rows given t taken) refl due.1)
 no_check_fault c rows given calm t (F.Clash id) taken (inl due) = absurd (no_check_answers (work_of c.job t) rows due.script.rows due.script.type due.script.start due.script.bytes (checked_work c rows given t taken) due.script.work)
-no_check_fault c rows given calm t (F.Clash id) taken (inr clash) = absurd (no_check_value (work_of c.job t) rows clash.value.rows clash.value.type clash.value.bytes (checked_work c rows given t taken) clash.value.work)
+no_check_fault c rows given calm t (F.Clash id) taken (inr (inr moved)) = absurd (other_sort _ _ _ (checked_work c rows given t taken) moved.moved.work refl refl)
+no_check_fault c rows given calm t (F.Clash id) taken (inr (inl clash)) = absurd (no_check_value (work_of c.job t) rows clash.value.rows clash.value.type clash.value.bytes (checked_work c rows given t taken) clash.value.work)
 no_check_fault c rows given calm t (F.Value r) taken (inl due) = absurd (let x = due.1 in no_check_answers (work_of c.job t) rows x.script.rows x.script.type x.script.start x.script.bytes (checked_work c rows given t taken) x.script.work)
-no_check_fault c rows given calm t (F.Value r) taken (inr due) = absurd (no_check_value (work_of c.job t) rows due.value.rows due.value.type due.value.bytes (checked_work c rows given t taken) due.value.work)
+no_check_fault c rows given calm t (F.Value r) taken (inr (inr moved)) = absurd (other_sort _ _ _ (checked_work c rows given t taken) (refuses_move c t r moved).work refl refl)
+no_check_fault c rows given calm t (F.Value r) taken (inr (inl due)) = absurd (no_check_value (work_of c.job t) rows due.value.rows due.value.type due.value.bytes (checked_work c rows given t taken) due.value.work)
 no_check_fault c rows given calm t F.Proof taken due = absurd (other_sort _ _ _ (checked_work c rows given t taken) due.proof.work refl refl)
 no_check_fault c rows given calm t (F.Root id why) taken (inl due) = absurd (no_check_answers (work_of c.job t) rows due.script.rows due.script.type due.script.start due.script.bytes (checked_work c rows given t taken) due.script.work)
-no_check_fault c rows given calm t (F.Root id why) taken (inr due) = absurd (no_check_root (work_of c.job t) rows due.opened.rows due.opened.type due.opened.root (checked_work c rows given t taken) due.opened.work)
+no_check_fault c rows given calm t (F.Root id why) taken (inr (inr (inr moved))) = absurd (other_sort _ _ _ (checked_work c rows given t taken) moved.moved.work refl refl)
+no_check_fault c rows given calm t (F.Root id why) taken (inr (inr (inl due))) = absurd (other_sort _ _ _ (checked_work c rows given t taken) due.sought.work refl refl)
+no_check_fault c rows given calm t (F.Root id why) taken (inr (inl due)) = absurd (no_check_root (work_of c.job t) rows due.opened.rows due.opened.type due.opened.root (checked_work c rows given t taken) due.opened.work)
 
 same_names : (w : Work) (names : List (List ℕ)) (rows : List Row) → Checks w rows → w ≡ lists names → names ≡ declared_names rows
 same_names w names rows (inl is) work = let e : lists names ≡ lists (declared_names rows) = sym work ∙ is in cc
@@ -97,7 +99,9 @@ listed_by c rows given calm t S.Done taken (inl all) = absurd (no_check_answers 
 listed_by c rows given calm t S.Done taken (inr (inr (inl created))) = absurd (no_check_value (work_of c.job t) rows created.value.rows created.value.type created.value.bytes (checked_work c rows given t taken) created.value.work)
 listed_by c rows given calm t S.Done taken (inr (inr (inr (inr (inl told))))) = absurd (other_sort _ _ _ (checked_work c rows given t taken) told.types.work refl refl)
 listed_by c rows given calm t S.Done taken (inr (inr (inr (inr (inr (inl told)))))) = absurd (other_sort _ _ _ (checked_work c rows given t taken) told.proof.work refl refl)
-listed_by c rows given calm t S.Done taken (inr (inr (inr (inr (inr (inr all)))))) = absurd (other_sort _ _ _ (checked_work c rows given t taken) all.script.work refl refl)
+listed_by c rows given calm t S.Done taken (inr (inr (inr (inr (inr (inr (inl all))))))) = absurd (other_sort _ _ _ (checked_work c rows given t taken) all.script.work refl refl)
+listed_by c rows given calm t S.Done taken (inr (inr (inr (inr (inr (inr (inr (inl sought)))))))) = absurd (other_sort _ _ _ (checked_work c rows given t taken) sought.made.sought.work refl refl)
+listed_by c rows given calm t S.Done taken (inr (inr (inr (inr (inr (inr (inr (inr named)))))))) = absurd (other_sort _ _ _ (checked_work c rows given t taken) named.has.moved.work refl refl)
 listed_by c rows given calm t S.Done taken (inr (inr (inr (inl shows)))) = absurd (let has = shows.1.has in no_check_root (work_of c.job t) rows has.opened.rows has.opened.type has.opened.root (checked_work c rows given t taken) has.opened.work)
 listed_by c rows given calm t S.Done taken (inr (inl listed)) =
     inr (refl, subst (λ (names : List (List ℕ)). Lists names c.before.output c.after.output) (same_names (work_of c.job t) listed.names rows (checked_work c rows given t taken) listed.work) listed.written)
@@ -127,4 +131,6 @@ complete_from c status ended = record {
   compares = λ given calm. compared_by c given calm ended.taking status ended.taken ended.says;
   verifies = λ given calm. verified_by c given calm ended.taking status ended.taken ended.says;
   keeps = λ script given calm. kept_by c script given calm ended.taking status ended.taken ended.says;
+  proves = λ v given calm. proved_by c v given calm ended.taking status ended.taken ended.says;
+  migrates = λ v given lets. moved_by c v given lets ended.taking status ended.taken ended.says;
 }

@@ -10,9 +10,9 @@ use Rattle.ild_schema.specs.Names.{number_named}
 use Rattle.ild_schema.specs.declared.number.TypeNo.{TypeNo}
 use Rattle.ild_schema.specs.declared.row.Row.{Row}
 use Rattle.ild_script.specs.Line.{lines_of}
-use Rattle.ild_run.specs.Work.{Work, Taking, ends, lists, matches, answers, makes, opens, weighs, serves, keep_work, compiled_work, schema_work, job_work, work_of, IsVerdict, IsTaking, AreTaken}
+use Rattle.ild_run.specs.Work.{Work, Taking, ends, serves, keep_work, compiled_work, schema_work, job_work, work_of, IsVerdict, IsTaking, AreTaken}
 use Rattle.ild_run.specs.Words.{Job, keeps}
-use Rattle.ild_run.specs.Ended.{Call, IsDue, AsksScript, TriesValue, ReadsRoot, HeadsAll, Says}
+use Rattle.ild_run.specs.Ended.{Call, IsDue, HeadsAll, Says}
 use Rattle.ild_run.specs.Complete.{IsGivenHeads, IsCalm, KeepsPlainly}
 use Rattle.ild_run.specs.declared.fault.Fault.{Fault}
 use Rattle.ild_run.specs.declared.fault.Fault.TheVariants as F
@@ -20,7 +20,8 @@ use Rattle.ild_run.specs.declared.fault.Role.{Role}
 use Rattle.ild_run.specs.declared.fault.Trouble.TheVariants as T
 use Rattle.ild_run.specs.declared.status.Status.{Status}
 use Rattle.ild_run.specs.declared.status.Status.TheVariants as S
-use Rattle.ild_run.proofs.Matchings.{other_sort}
+use Rattle.ild_run.proofs.Matchings.{asks_not, other_sort}
+use Rattle.ild_run.proofs.Namings.{refuses_move}
 
 abbrev Serving : Work → List Row → TypeNo → List ℕ → Type 0
 Serving w rows n b = (w ≡ serves rows n b) ⊎ (w ≡ ends F.Memory)
@@ -28,13 +29,7 @@ Serving w rows n b = (w ≡ serves rows n b) ⊎ (w ≡ ends F.Memory)
 -- what is said of the script that is served
 abbrev OfServed : (List Row → TypeNo → List ℕ → Type 0) → Work → Type 0
 OfServed P (serves rows n b) = P rows n b
-OfServed P (ends f) = ⊥
-OfServed P (lists names) = ⊥
-OfServed P (matches rows others m n) = ⊥
-OfServed P (answers rows n start b) = ⊥
-OfServed P (makes rows n b) = ⊥
-OfServed P (opens rows n id) = ⊥
-OfServed P (weighs rows n id path b) = ⊥
+OfServed P w = ⊥
 
 no_end : (w : Work) (f : Fault) (rows : List Row) (n : TypeNo) (b : List ℕ) → Serving w rows n b → (f ≡ F.Memory → ⊥) → w ≡ ends f → ⊥
 no_end w f rows n b (inl is) other ended = let e : serves rows n b ≡ ends f = sym is ∙ ended in cc
@@ -80,11 +75,6 @@ module _ (c : Call) (script : List ℕ) (given : IsGivenHeads c script) where
     ends_not : (f : Fault) → (f ≡ F.Memory → ⊥) → work_of c.job t ≡ ends f → ⊥
     ends_not f other ended = no_end (work_of c.job t) f given.typed.rows given.typed.type script here other ended
 
-    asks_not : AsksScript c t ⊎ (TriesValue c t ⊎ ReadsRoot c t) → ⊥
-    asks_not (inl asks) = other_sort _ _ _ here asks.script.work refl refl
-    asks_not (inr (inl tries)) = other_sort _ _ _ here tries.value.work refl refl
-    asks_not (inr (inr reads)) = other_sort _ _ _ here reads.opened.work refl refl
-
     no_fault : (f : Fault) → IsDue c t f → f ≡ F.Memory
     no_fault F.Memory due = refl
     no_fault F.Words due = absurd (ends_not F.Words (λ e. cc) due)
@@ -92,14 +82,18 @@ module _ (c : Call) (script : List ℕ) (given : IsGivenHeads c script) where
     no_fault (F.Input role T.Failed) due = absurd (calm.inputs due.0)
     no_fault (F.Input role T.Absent) due = absurd (ends_not (F.Input role T.Absent) (λ e. cc) due.0)
     no_fault (F.Input role T.Long) due = absurd (ends_not (F.Input role T.Long) (λ e. cc) due.0)
-    no_fault F.Store due = absurd (asks_not due.1)
+    no_fault F.Store due = absurd (asks_not c t _ here refl due.1)
     no_fault (F.Clash id) (inl due) = absurd (other_sort _ _ _ here due.script.work refl refl)
-    no_fault (F.Clash id) (inr due) = absurd (other_sort _ _ _ here due.value.work refl refl)
+    no_fault (F.Clash id) (inr (inr moved)) = absurd (other_sort _ _ _ here moved.moved.work refl refl)
+    no_fault (F.Clash id) (inr (inl due)) = absurd (other_sort _ _ _ here due.value.work refl refl)
     no_fault (F.Value r) (inl due) = absurd (other_sort _ _ _ here due.1.script.work refl refl)
-    no_fault (F.Value r) (inr due) = absurd (other_sort _ _ _ here due.value.work refl refl)
+    no_fault (F.Value r) (inr (inr moved)) = absurd (other_sort _ _ _ here (refuses_move c t r moved).work refl refl)
+    no_fault (F.Value r) (inr (inl due)) = absurd (other_sort _ _ _ here due.value.work refl refl)
     no_fault F.Proof due = absurd (other_sort _ _ _ here due.proof.work refl refl)
     no_fault (F.Root id why) (inl due) = absurd (other_sort _ _ _ here due.script.work refl refl)
-    no_fault (F.Root id why) (inr due) = absurd (other_sort _ _ _ here due.opened.work refl refl)
+    no_fault (F.Root id why) (inr (inr (inr moved))) = absurd (other_sort _ _ _ here moved.moved.work refl refl)
+    no_fault (F.Root id why) (inr (inr (inl due))) = absurd (other_sort _ _ _ here due.sought.work refl refl)
+    no_fault (F.Root id why) (inr (inl due)) = absurd (other_sort _ _ _ here due.opened.work refl refl)
 
     -- ---- what it says
 
@@ -122,7 +116,9 @@ module _ (c : Call) (script : List ℕ) (given : IsGivenHeads c script) where
     by_status S.Done (inr (inr (inr (inl shows)))) = absurd (other_sort _ _ _ here shows.1.has.opened.work refl refl)
     by_status S.Done (inr (inr (inr (inr (inl told))))) = absurd (other_sort _ _ _ here told.types.work refl refl)
     by_status S.Done (inr (inr (inr (inr (inr (inl told)))))) = absurd (other_sort _ _ _ here told.proof.work refl refl)
-    by_status S.Done (inr (inr (inr (inr (inr (inr heads)))))) = inr (kept_plainly false S.Done refl heads)
+    by_status S.Done (inr (inr (inr (inr (inr (inr (inl heads))))))) = inr (kept_plainly false S.Done refl heads)
+    by_status S.Done (inr (inr (inr (inr (inr (inr (inr (inl sought)))))))) = absurd (other_sort _ _ _ here sought.made.sought.work refl refl)
+    by_status S.Done (inr (inr (inr (inr (inr (inr (inr (inr named)))))))) = absurd (other_sort _ _ _ here named.has.moved.work refl refl)
     by_status S.Refused (inl all) = absurd (other_sort _ _ _ here all.script.work refl refl)
     by_status S.Refused (inr (inl shows)) = absurd (other_sort _ _ _ here shows.has.opened.work refl refl)
     by_status S.Refused (inr (inr (inl told))) = absurd (other_sort _ _ _ here told.1.types.work refl refl)

@@ -9,9 +9,9 @@ use Rattle.ild_run_compare.specs.Compared.{IsTold}
 use Rattle.ild_schema.specs.Names.{number_named}
 use Rattle.ild_schema.specs.declared.number.TypeNo.{TypeNo}
 use Rattle.ild_schema.specs.declared.row.Row.{Row}
-use Rattle.ild_run.specs.Work.{Work, Taking, ends, lists, matches, answers, makes, opens, weighs, serves, types_work, next_compiled, next_work, compiled_work, schema_work, job_work, work_of, IsVerdict, IsTaking, AreTaken}
+use Rattle.ild_run.specs.Work.{Work, Taking, ends, matches, types_work, next_compiled, next_work, compiled_work, schema_work, job_work, work_of, IsVerdict, IsTaking, AreTaken}
 use Rattle.ild_run.specs.Words.{Job, compares}
-use Rattle.ild_run.specs.Ended.{Call, IsDue, AsksScript, TriesValue, ReadsRoot, MatchesTypes, Says}
+use Rattle.ild_run.specs.Ended.{Call, IsDue, MatchesTypes, Says}
 use Rattle.ild_run.specs.Complete.{IsGivenPair, IsCalm, ComparesPlainly}
 use Rattle.ild_run.specs.declared.fault.Fault.{Fault}
 use Rattle.ild_run.specs.declared.fault.Fault.TheVariants as F
@@ -19,7 +19,8 @@ use Rattle.ild_run.specs.declared.fault.Role.{Role}
 use Rattle.ild_run.specs.declared.fault.Trouble.TheVariants as T
 use Rattle.ild_run.specs.declared.status.Status.{Status}
 use Rattle.ild_run.specs.declared.status.Status.TheVariants as S
-use Rattle.ild_run.proofs.Matchings.{other_sort}
+use Rattle.ild_run.proofs.Matchings.{asks_not, other_sort}
+use Rattle.ild_run.proofs.Namings.{refuses_move}
 
 abbrev Comparing : Work → List Row → List Row → TypeNo → TypeNo → Type 0
 Comparing w rows others m n = (w ≡ matches rows others m n) ⊎ (w ≡ ends F.Memory)
@@ -27,13 +28,7 @@ Comparing w rows others m n = (w ≡ matches rows others m n) ⊎ (w ≡ ends F.
 -- what is said of the types that are compared
 abbrev OfMatched : (List Row → List Row → TypeNo → TypeNo → Type 0) → Work → Type 0
 OfMatched P (matches rows others m n) = P rows others m n
-OfMatched P (ends f) = ⊥
-OfMatched P (lists names) = ⊥
-OfMatched P (answers rows n start b) = ⊥
-OfMatched P (makes rows n b) = ⊥
-OfMatched P (opens rows n id) = ⊥
-OfMatched P (weighs rows n id path b) = ⊥
-OfMatched P (serves rows n b) = ⊥
+OfMatched P w = ⊥
 
 no_end : (w : Work) (f : Fault) (rows others : List Row) (m n : TypeNo) → Comparing w rows others m n → (f ≡ F.Memory → ⊥) → w ≡ ends f → ⊥
 no_end w f rows others m n (inl is) other ended = let e : matches rows others m n ≡ ends f = sym is ∙ ended in cc
@@ -83,11 +78,6 @@ module _ (c : Call) (given : IsGivenPair c) where
     ends_not : (f : Fault) → (f ≡ F.Memory → ⊥) → work_of c.job t ≡ ends f → ⊥
     ends_not f other ended = no_end (work_of c.job t) f given.typed.rows given.next.rows given.typed.type given.next.type here other ended
 
-    asks_not : AsksScript c t ⊎ (TriesValue c t ⊎ ReadsRoot c t) → ⊥
-    asks_not (inl asks) = other_sort _ _ _ here asks.script.work refl refl
-    asks_not (inr (inl tries)) = other_sort _ _ _ here tries.value.work refl refl
-    asks_not (inr (inr reads)) = other_sort _ _ _ here reads.opened.work refl refl
-
     no_fault : (f : Fault) → IsDue c t f → f ≡ F.Memory
     no_fault F.Memory due = refl
     no_fault F.Words due = absurd (ends_not F.Words (λ e. cc) due)
@@ -95,14 +85,18 @@ module _ (c : Call) (given : IsGivenPair c) where
     no_fault (F.Input role T.Failed) due = absurd (calm.inputs due.0)
     no_fault (F.Input role T.Absent) due = absurd (ends_not (F.Input role T.Absent) (λ e. cc) due.0)
     no_fault (F.Input role T.Long) due = absurd (ends_not (F.Input role T.Long) (λ e. cc) due.0)
-    no_fault F.Store due = absurd (asks_not due.1)
+    no_fault F.Store due = absurd (asks_not c t _ here refl due.1)
     no_fault (F.Clash id) (inl due) = absurd (other_sort _ _ _ here due.script.work refl refl)
-    no_fault (F.Clash id) (inr due) = absurd (other_sort _ _ _ here due.value.work refl refl)
+    no_fault (F.Clash id) (inr (inr moved)) = absurd (other_sort _ _ _ here moved.moved.work refl refl)
+    no_fault (F.Clash id) (inr (inl due)) = absurd (other_sort _ _ _ here due.value.work refl refl)
     no_fault (F.Value r) (inl due) = absurd (other_sort _ _ _ here due.1.script.work refl refl)
-    no_fault (F.Value r) (inr due) = absurd (other_sort _ _ _ here due.value.work refl refl)
+    no_fault (F.Value r) (inr (inr moved)) = absurd (other_sort _ _ _ here (refuses_move c t r moved).work refl refl)
+    no_fault (F.Value r) (inr (inl due)) = absurd (other_sort _ _ _ here due.value.work refl refl)
     no_fault F.Proof due = absurd (other_sort _ _ _ here due.proof.work refl refl)
     no_fault (F.Root id why) (inl due) = absurd (other_sort _ _ _ here due.script.work refl refl)
-    no_fault (F.Root id why) (inr due) = absurd (other_sort _ _ _ here due.opened.work refl refl)
+    no_fault (F.Root id why) (inr (inr (inr moved))) = absurd (other_sort _ _ _ here moved.moved.work refl refl)
+    no_fault (F.Root id why) (inr (inr (inl due))) = absurd (other_sort _ _ _ here due.sought.work refl refl)
+    no_fault (F.Root id why) (inr (inl due)) = absurd (other_sort _ _ _ here due.opened.work refl refl)
 
     -- ---- the answer
 
@@ -123,7 +117,9 @@ module _ (c : Call) (given : IsGivenPair c) where
     by_status S.Done (inr (inr (inr (inl shows)))) = absurd (other_sort _ _ _ here shows.1.has.opened.work refl refl)
     by_status S.Done (inr (inr (inr (inr (inl told))))) = inr (None, (refl, said None told))
     by_status S.Done (inr (inr (inr (inr (inr (inl told)))))) = absurd (other_sort _ _ _ here told.proof.work refl refl)
-    by_status S.Done (inr (inr (inr (inr (inr (inr all)))))) = absurd (other_sort _ _ _ here all.script.work refl refl)
+    by_status S.Done (inr (inr (inr (inr (inr (inr (inl all))))))) = absurd (other_sort _ _ _ here all.script.work refl refl)
+    by_status S.Done (inr (inr (inr (inr (inr (inr (inr (inl sought)))))))) = absurd (other_sort _ _ _ here sought.made.sought.work refl refl)
+    by_status S.Done (inr (inr (inr (inr (inr (inr (inr (inr named)))))))) = absurd (other_sort _ _ _ here named.has.moved.work refl refl)
     by_status S.Refused (inl all) = absurd (other_sort _ _ _ here all.script.work refl refl)
     by_status S.Refused (inr (inl shows)) = absurd (other_sort _ _ _ here shows.has.opened.work refl refl)
     by_status S.Refused (inr (inr (inr (inl told)))) = absurd (other_sort _ _ _ here told.proof.work refl refl)

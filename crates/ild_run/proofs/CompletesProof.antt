@@ -7,14 +7,14 @@ use Rattle.ild_edges.specs.Sink.{Appends}
 use Rattle.ild_edges.specs.declared.inputs.Taken.{Taken}
 use Rattle.ild_inclusion.specs.declared.answer.Answer.{Answer}
 use Rattle.ild_run_verify.proofs.OneSaid.{one_said, none_said}
-use Rattle.ild_run_verify.specs.Verified.{IsTold, ProofSays, SaysNothing, WritesLine}
+use Rattle.ild_run_verify.specs.Verified.{IsTold, SaysNothing, WritesLine}
 use Rattle.ild_schema.specs.Names.{number_named}
 use Rattle.ild_schema.specs.Table.{IsTable}
 use Rattle.ild_schema.specs.declared.number.TypeNo.{TypeNo}
 use Rattle.ild_schema.specs.declared.row.Row.{Row}
-use Rattle.ild_run.specs.Work.{Work, Taking, ends, lists, matches, answers, makes, opens, weighs, serves, verify_work, compiled_work, schema_work, job_work, work_of, IsVerdict, IsTaking, AreTaken}
+use Rattle.ild_run.specs.Work.{Work, Taking, ends, weighs, verify_work, compiled_work, schema_work, job_work, work_of, IsVerdict, IsTaking, AreTaken}
 use Rattle.ild_run.specs.Words.{Job, verifies}
-use Rattle.ild_run.specs.Ended.{Call, IsDue, AsksScript, TriesValue, ReadsRoot, RefusesProof, VerifiesPath, Says}
+use Rattle.ild_run.specs.Ended.{Call, IsDue, RefusesProof, VerifiesPath, Says}
 use Rattle.ild_run.specs.Complete.{IsGivenProof, IsCalm, VerifiesPlainly}
 use Rattle.ild_run.specs.Fault.{fault_text}
 use Rattle.ild_run.specs.Shown.{hash}
@@ -24,7 +24,8 @@ use Rattle.ild_run.specs.declared.fault.Role.{Role}
 use Rattle.ild_run.specs.declared.fault.Trouble.TheVariants as T
 use Rattle.ild_run.specs.declared.status.Status.{Status}
 use Rattle.ild_run.specs.declared.status.Status.TheVariants as S
-use Rattle.ild_run.proofs.Matchings.{other_sort}
+use Rattle.ild_run.proofs.Matchings.{asks_not, other_sort}
+use Rattle.ild_run.proofs.Namings.{refuses_move}
 
 abbrev Weighing : Work → List Row → TypeNo → List ℕ → List (List ℕ) → List ℕ → Type 0
 Weighing w rows n id path b = (w ≡ weighs rows n id path b) ⊎ (w ≡ ends F.Memory)
@@ -32,13 +33,7 @@ Weighing w rows n id path b = (w ≡ weighs rows n id path b) ⊎ (w ≡ ends F.
 -- what is said of the proof that is weighed
 abbrev OfWeighed : (List Row → TypeNo → List ℕ → List (List ℕ) → List ℕ → Type 0) → Work → Type 0
 OfWeighed P (weighs rows n id path b) = P rows n id path b
-OfWeighed P (serves rows n b) = ⊥
-OfWeighed P (ends f) = ⊥
-OfWeighed P (lists names) = ⊥
-OfWeighed P (matches rows others m n) = ⊥
-OfWeighed P (answers rows n start b) = ⊥
-OfWeighed P (makes rows n b) = ⊥
-OfWeighed P (opens rows n id) = ⊥
+OfWeighed P w = ⊥
 
 no_end : (w : Work) (f : Fault) (rows : List Row) (n : TypeNo) (id : List ℕ) (path : List (List ℕ)) (b : List ℕ) → Weighing w rows n id path b → (f ≡ F.Memory → ⊥) → w ≡ ends f → ⊥
 no_end w f rows n id path b (inl is) other ended = let e : weighs rows n id path b ≡ ends f = sym is ∙ ended in cc
@@ -89,11 +84,6 @@ module _ (c : Call) (given : IsGivenProof c) where
     ends_not : (f : Fault) → (f ≡ F.Memory → ⊥) → work_of c.job t ≡ ends f → ⊥
     ends_not f other ended = no_end (work_of c.job t) f given.typed.rows given.typed.type given.root given.path given.bytes here other ended
 
-    asks_not : AsksScript c t ⊎ (TriesValue c t ⊎ ReadsRoot c t) → ⊥
-    asks_not (inl asks) = other_sort _ _ _ here asks.script.work refl refl
-    asks_not (inr (inl tries)) = other_sort _ _ _ here tries.value.work refl refl
-    asks_not (inr (inr reads)) = other_sort _ _ _ here reads.opened.work refl refl
-
     no_fault : (f : Fault) → (f ≡ F.Proof → ⊥) → IsDue c t f → f ≡ F.Memory
     no_fault F.Memory other due = refl
     no_fault F.Words other due = absurd (ends_not F.Words (λ e. cc) due)
@@ -101,14 +91,18 @@ module _ (c : Call) (given : IsGivenProof c) where
     no_fault (F.Input role T.Failed) other due = absurd (calm.inputs due.0)
     no_fault (F.Input role T.Absent) other due = absurd (ends_not (F.Input role T.Absent) (λ e. cc) due.0)
     no_fault (F.Input role T.Long) other due = absurd (ends_not (F.Input role T.Long) (λ e. cc) due.0)
-    no_fault F.Store other due = absurd (asks_not due.1)
+    no_fault F.Store other due = absurd (asks_not c t _ here refl due.1)
     no_fault (F.Clash id) other (inl due) = absurd (other_sort _ _ _ here due.script.work refl refl)
-    no_fault (F.Clash id) other (inr due) = absurd (other_sort _ _ _ here due.value.work refl refl)
+    no_fault (F.Clash id) other (inr (inr moved)) = absurd (other_sort _ _ _ here moved.moved.work refl refl)
+    no_fault (F.Clash id) other (inr (inl due)) = absurd (other_sort _ _ _ here due.value.work refl refl)
     no_fault (F.Value r) other (inl due) = absurd (other_sort _ _ _ here due.1.script.work refl refl)
-    no_fault (F.Value r) other (inr due) = absurd (other_sort _ _ _ here due.value.work refl refl)
+    no_fault (F.Value r) other (inr (inr moved)) = absurd (other_sort _ _ _ here (refuses_move c t r moved).work refl refl)
+    no_fault (F.Value r) other (inr (inl due)) = absurd (other_sort _ _ _ here due.value.work refl refl)
     no_fault F.Proof other due = absurd (other refl)
     no_fault (F.Root id why) other (inl due) = absurd (other_sort _ _ _ here due.script.work refl refl)
-    no_fault (F.Root id why) other (inr due) = absurd (other_sort _ _ _ here due.opened.work refl refl)
+    no_fault (F.Root id why) other (inr (inr (inr moved))) = absurd (other_sort _ _ _ here moved.moved.work refl refl)
+    no_fault (F.Root id why) other (inr (inr (inl due))) = absurd (other_sort _ _ _ here due.sought.work refl refl)
+    no_fault (F.Root id why) other (inr (inl due)) = absurd (other_sort _ _ _ here due.opened.work refl refl)
 
     -- ---- what it says
 
@@ -151,7 +145,9 @@ module _ (c : Call) (given : IsGivenProof c) where
     by_status S.Done (inr (inr (inr (inl shows)))) = absurd (other_sort _ _ _ here shows.1.has.opened.work refl refl)
     by_status S.Done (inr (inr (inr (inr (inl told))))) = absurd (other_sort _ _ _ here told.types.work refl refl)
     by_status S.Done (inr (inr (inr (inr (inr (inl told)))))) = inr (told_plainly false S.Done refl told)
-    by_status S.Done (inr (inr (inr (inr (inr (inr all)))))) = absurd (other_sort _ _ _ here all.script.work refl refl)
+    by_status S.Done (inr (inr (inr (inr (inr (inr (inl all))))))) = absurd (other_sort _ _ _ here all.script.work refl refl)
+    by_status S.Done (inr (inr (inr (inr (inr (inr (inr (inl sought)))))))) = absurd (other_sort _ _ _ here sought.made.sought.work refl refl)
+    by_status S.Done (inr (inr (inr (inr (inr (inr (inr (inr named)))))))) = absurd (other_sort _ _ _ here named.has.moved.work refl refl)
     by_status S.Refused (inl all) = absurd (other_sort _ _ _ here all.script.work refl refl)
     by_status S.Refused (inr (inl shows)) = absurd (other_sort _ _ _ here shows.has.opened.work refl refl)
     by_status S.Refused (inr (inr (inl told))) = absurd (other_sort _ _ _ here told.1.types.work refl refl)

@@ -33,11 +33,12 @@ use Rattle.ild_script_session.specs.Step.{Carries}
 use Rattle.ild_typed.proofs.TreeKept.{one_stands}
 use Rattle.ild_typed.specs.Schema.{IsSchema}
 use Rattle.ild_typed.specs.Stands.{bare, IsFrame, Stands}
-use Rattle.ild_run.specs.Work.{Work, Taking, ends, lists, matches, answers, makes, opens, weighs, serves, run_work, compiled_work, schema_work, job_work, work_of, IsVerdict, IsTaking, AreTaken}
+use Rattle.ild_run.specs.Work.{Work, Taking, ends, lists, answers, makes, opens, run_work, compiled_work, schema_work, job_work, work_of, IsVerdict, IsTaking, AreTaken}
 use Rattle.ild_run.specs.Words.{Job, runs}
 use Rattle.ild_run.specs.Ended.{Call, IsDue, AnswersAll, Says}
 use Rattle.ild_run.specs.Complete.{IsGiven, IsUndisturbed, AnswersPlainly}
 use Rattle.ild_run.proofs.Matchings.{other_sort}
+use Rattle.ild_run.proofs.Namings.{refuses_move}
 use Rattle.ild_run.specs.Shown.{hash}
 use Rattle.ild_run.specs.declared.fault.Fault.{Fault}
 use Rattle.ild_run.specs.declared.fault.Fault.TheVariants as F
@@ -77,13 +78,7 @@ no_root w opened m id rows n start b (inr is) work = let e : ends F.Memory ≡ o
 -- what is said of the script that is run
 abbrev OfRun : (List Row → TypeNo → Start → List ℕ → Type 0) → Work → Type 0
 OfRun Q (answers rows n start b) = Q rows n start b
-OfRun Q (ends f) = ⊥
-OfRun Q (lists names) = ⊥
-OfRun Q (matches rows others m n) = ⊥
-OfRun Q (makes rows n b) = ⊥
-OfRun Q (opens rows n id) = ⊥
-OfRun Q (weighs rows n id path b) = ⊥
-OfRun Q (serves rows n b) = ⊥
+OfRun Q w = ⊥
 
 said : (Q : List Row → TypeNo → Start → List ℕ → Type 0) (w : Work) (rows run : List Row) (n m : TypeNo) (start s : Start) (b d : List ℕ) → Running w rows n start b → w ≡ answers run m s d → Q run m s d → Q rows n start b
 said Q w rows run n m start s b d (inl is) work q = subst (OfRun Q) (sym work ∙ is) q
@@ -175,17 +170,21 @@ module _ (c : Call) (tests : Tests) (v : Typed) (script : List ℕ) (given : IsG
     no_fault (F.Clash id) (inl due) =
         let it = said (λ rows n start b. Stops hash rows n start c.before.moment (P.Clash id) c.after.moment) (work_of c.job t) given.typed.rows due.script.rows given.typed.type due.script.type given.start due.script.start script due.script.bytes here due.script.work due.stops in
         absurd (start_apart given.typed.rows given.typed.type tests given.start v script id c.before.moment c.after.moment it calm.apart.held)
-    no_fault (F.Clash id) (inr clash) = absurd (makes_not clash.value.rows clash.value.type clash.value.bytes clash.value.work)
+    no_fault (F.Clash id) (inr (inr moved)) = absurd (other_sort _ _ _ here moved.moved.work refl refl)
+    no_fault (F.Clash id) (inr (inl clash)) = absurd (makes_not clash.value.rows clash.value.type clash.value.bytes clash.value.work)
     no_fault (F.Value r) (inl due) =
         let x = due.1 in
         let it = said (λ rows n start b. Stops hash rows n start c.before.moment P.Mismatch c.after.moment) (work_of c.job t) given.typed.rows x.script.rows given.typed.type x.script.type given.start x.script.start script x.script.bytes here x.script.work x.stops in
         absurd (start_empty given.typed.rows given.typed.type given.start v given.held c.before.moment c.after.moment it given.starts)
-    no_fault (F.Value r) (inr due) = absurd (makes_not due.value.rows due.value.type due.value.bytes due.value.work)
+    no_fault (F.Value r) (inr (inr moved)) = absurd (other_sort _ _ _ here (refuses_move c t r moved).work refl refl)
+    no_fault (F.Value r) (inr (inl due)) = absurd (makes_not due.value.rows due.value.type due.value.bytes due.value.work)
     no_fault F.Proof due = absurd (other_sort _ _ _ here due.proof.work refl refl)
     no_fault (F.Root id why) (inl due) =
         let it = said (λ rows n start b. Stops hash rows n start c.before.moment (P.Block id why) c.after.moment) (work_of c.job t) given.typed.rows due.script.rows given.typed.type due.script.type given.start due.script.start script due.script.bytes here due.script.work due.stops in
         absurd (start_there given.typed.rows given.typed.type given.start v given.held c.before.moment c.after.moment id why given.store it given.starts)
-    no_fault (F.Root id why) (inr due) = absurd (opens_not due.opened.rows due.opened.type due.opened.root due.opened.work)
+    no_fault (F.Root id why) (inr (inr (inr moved))) = absurd (other_sort _ _ _ here moved.moved.work refl refl)
+    no_fault (F.Root id why) (inr (inr (inl due))) = absurd (other_sort _ _ _ here due.sought.work refl refl)
+    no_fault (F.Root id why) (inr (inl due)) = absurd (opens_not due.opened.rows due.opened.type due.opened.root due.opened.work)
 
     lines_plainly : (status : Status) (refused : Bool) → status ≡ cond refused S.Refused S.Done → IsTable given.typed.rows → ScriptAll given.typed.rows given.typed.type given.start script c.before.moment c.before.output refused c.after.moment c.after.output
         → AnswersPlainly c given.typed.rows given.typed.type tests v script status
@@ -221,7 +220,9 @@ module _ (c : Call) (tests : Tests) (v : Typed) (script : List ℕ) (given : IsG
     run_by S.Done (inr (inr (inl created))) = absurd (makes_not created.value.rows created.value.type created.value.bytes created.value.work)
     run_by S.Done (inr (inr (inr (inr (inl told))))) = absurd (other_sort _ _ _ here told.types.work refl refl)
     run_by S.Done (inr (inr (inr (inr (inr (inl told)))))) = absurd (other_sort _ _ _ here told.proof.work refl refl)
-    run_by S.Done (inr (inr (inr (inr (inr (inr all)))))) = absurd (other_sort _ _ _ here all.script.work refl refl)
+    run_by S.Done (inr (inr (inr (inr (inr (inr (inl all))))))) = absurd (other_sort _ _ _ here all.script.work refl refl)
+    run_by S.Done (inr (inr (inr (inr (inr (inr (inr (inl sought)))))))) = absurd (other_sort _ _ _ here sought.made.sought.work refl refl)
+    run_by S.Done (inr (inr (inr (inr (inr (inr (inr (inr named)))))))) = absurd (other_sort _ _ _ here named.has.moved.work refl refl)
     run_by S.Done (inr (inr (inr (inl shows)))) = absurd (let has = shows.1.has in opens_not has.opened.rows has.opened.type has.opened.root has.opened.work)
     run_by S.Refused (inl all) = inr (plainly S.Refused true refl all)
     run_by S.Refused (inr (inr (inl told))) = absurd (other_sort _ _ _ here told.1.types.work refl refl)

@@ -18,12 +18,13 @@ use Rattle.ild_schema.specs.declared.number.TypeNo.{TypeNo}
 use Rattle.ild_schema.specs.declared.row.Row.{Row}
 use Rattle.ild_typed.specs.Stands.{bare, root_id, blocks_of, Stands}
 use Rattle.ild_run_open.specs.declared.start.Start.{Start}
-use Rattle.ild_run.specs.Work.{Work, Taking, ends, lists, matches, answers, makes, opens, weighs, serves, type_work, compiled_work, schema_work, job_work, work_of, IsVerdict, IsTaking, AreTaken}
+use Rattle.ild_run.specs.Work.{Work, Taking, ends, lists, answers, makes, opens, type_work, compiled_work, schema_work, job_work, work_of, IsVerdict, IsTaking, AreTaken}
 use Rattle.ild_run.specs.Shown.{hash}
 use Rattle.ild_run.specs.Words.{Job, creates}
 use Rattle.ild_run.specs.Ended.{Call, IsDue, CreatesValue, Says}
 use Rattle.ild_run.specs.Complete.{IsGivenValue, LetsCreate, CreatesPlainly}
 use Rattle.ild_run.proofs.Matchings.{other_sort}
+use Rattle.ild_run.proofs.Namings.{refuses_move}
 use Rattle.ild_run.specs.declared.fault.Fault.{Fault}
 use Rattle.ild_run.specs.declared.fault.Fault.TheVariants as F
 use Rattle.ild_run.specs.declared.fault.Role.{Role}
@@ -86,13 +87,7 @@ no_root w opened m id rows n b (inr is) work = let e : ends F.Memory ≡ opens o
 -- what is said of the value that is made
 abbrev OfMade : (List Row → TypeNo → List ℕ → Type 0) → Work → Type 0
 OfMade P (makes rows n b) = P rows n b
-OfMade P (ends f) = ⊥
-OfMade P (lists names) = ⊥
-OfMade P (matches rows others m n) = ⊥
-OfMade P (weighs rows n id path b) = ⊥
-OfMade P (serves rows n b) = ⊥
-OfMade P (answers rows n start b) = ⊥
-OfMade P (opens rows n id) = ⊥
+OfMade P w = ⊥
 
 said : (P : List Row → TypeNo → List ℕ → Type 0) (w : Work) (rows made : List Row) (n m : TypeNo) (b c : List ℕ) → Creating w rows n b → w ≡ makes made m c → P made m c → P rows n b
 said P w rows made n m b c (inl is) work p = subst (OfMade P) (sym work ∙ is) p
@@ -114,7 +109,8 @@ no_fault c v d given calm t (F.Input role T.Absent) taken due = absurd (no_end (
 no_fault c v d given calm t (F.Input role T.Long) taken due = absurd (no_end (work_of c.job t) (F.Input role T.Long) given.typed.rows given.typed.type given.bytes (work_makes c v d given t taken) (λ e. cc) due.0)
 no_fault c v d given calm t F.Store taken due = absurd (calm.faultless.store due.0)
 no_fault c v d given calm t (F.Clash id) taken (inl due) = absurd (no_answers (work_of c.job t) given.typed.rows given.typed.type given.bytes due.script.rows due.script.type due.script.start due.script.bytes (work_makes c v d given t taken) due.script.work)
-no_fault c v d given calm t (F.Clash id) taken (inr clash) =
+no_fault c v d given calm t (F.Clash id) taken (inr (inr moved)) = absurd (other_sort _ _ _ (work_makes c v d given t taken) moved.moved.work refl refl)
+no_fault c v d given calm t (F.Clash id) taken (inr (inl clash)) =
     let P : List Row → TypeNo → List ℕ → Type 0 = IsOfTable (λ rows n b. Clashes hash rows n b c.before.moment c.after.moment id.0) in
     let it = said P (work_of c.job t) given.typed.rows clash.value.rows given.typed.type clash.value.type given.bytes clash.value.bytes (work_makes c v d given t taken) clash.value.work (record { table = clash.table; holds = clash.clash }) in
     let tried = it.holds.tried in
@@ -126,9 +122,12 @@ no_fault c v d given calm t (F.Clash id) taken (inr clash) =
     absurd (calm.apart hit.kept hit.new among hit.held hit.collide)
 no_fault c v d given calm t F.Proof taken due = absurd (other_sort _ _ _ (work_makes c v d given t taken) due.proof.work refl refl)
 no_fault c v d given calm t (F.Root id why) taken (inl due) = absurd (no_answers (work_of c.job t) given.typed.rows given.typed.type given.bytes due.script.rows due.script.type due.script.start due.script.bytes (work_makes c v d given t taken) due.script.work)
-no_fault c v d given calm t (F.Root id why) taken (inr due) = absurd (no_root (work_of c.job t) due.opened.rows due.opened.type due.opened.root given.typed.rows given.typed.type given.bytes (work_makes c v d given t taken) due.opened.work)
+no_fault c v d given calm t (F.Root id why) taken (inr (inr (inr moved))) = absurd (other_sort _ _ _ (work_makes c v d given t taken) moved.moved.work refl refl)
+no_fault c v d given calm t (F.Root id why) taken (inr (inr (inl due))) = absurd (other_sort _ _ _ (work_makes c v d given t taken) due.sought.work refl refl)
+no_fault c v d given calm t (F.Root id why) taken (inr (inl due)) = absurd (no_root (work_of c.job t) due.opened.rows due.opened.type due.opened.root given.typed.rows given.typed.type given.bytes (work_makes c v d given t taken) due.opened.work)
 no_fault c v d given calm t (F.Value r) taken (inl due) = absurd (let x = due.1 in no_answers (work_of c.job t) given.typed.rows given.typed.type given.bytes x.script.rows x.script.type x.script.start x.script.bytes (work_makes c v d given t taken) x.script.work)
-no_fault c v d given calm t (F.Value r) taken (inr due) =
+no_fault c v d given calm t (F.Value r) taken (inr (inr moved)) = absurd (other_sort _ _ _ (work_makes c v d given t taken) (refuses_move c t r moved).work refl refl)
+no_fault c v d given calm t (F.Value r) taken (inr (inl due)) =
     let P : List Row → TypeNo → List ℕ → Type 0 = IsOfTable (λ rows n b. IsFirst hash rows n b r) in
     let it = said P (work_of c.job t) given.typed.rows due.value.rows given.typed.type due.value.type given.bytes due.value.bytes (work_makes c v d given t taken) due.value.work (record { table = due.table; holds = due.refused }) in
     absurd (made_unrefused hash given.typed.rows (record { table = it.table; accepted = given.typed.schema.compiles.accepted }) given.typed.type given.bytes v d r given.makes it.holds.cause)
@@ -153,7 +152,9 @@ created_by c v d given calm t S.Done taken (inr (inl listed)) = absurd (no_list 
 created_by c v d given calm t S.Done taken (inr (inr (inl made))) = inr (created_so c v d given t taken made)
 created_by c v d given calm t S.Done taken (inr (inr (inr (inr (inl told))))) = absurd (other_sort _ _ _ (work_makes c v d given t taken) told.types.work refl refl)
 created_by c v d given calm t S.Done taken (inr (inr (inr (inr (inr (inl told)))))) = absurd (other_sort _ _ _ (work_makes c v d given t taken) told.proof.work refl refl)
-created_by c v d given calm t S.Done taken (inr (inr (inr (inr (inr (inr all)))))) = absurd (other_sort _ _ _ (work_makes c v d given t taken) all.script.work refl refl)
+created_by c v d given calm t S.Done taken (inr (inr (inr (inr (inr (inr (inl all))))))) = absurd (other_sort _ _ _ (work_makes c v d given t taken) all.script.work refl refl)
+created_by c v d given calm t S.Done taken (inr (inr (inr (inr (inr (inr (inr (inl sought)))))))) = absurd (other_sort _ _ _ (work_makes c v d given t taken) sought.made.sought.work refl refl)
+created_by c v d given calm t S.Done taken (inr (inr (inr (inr (inr (inr (inr (inr named)))))))) = absurd (other_sort _ _ _ (work_makes c v d given t taken) named.has.moved.work refl refl)
 created_by c v d given calm t S.Done taken (inr (inr (inr (inl shows)))) =
     absurd (let has = shows.1.has in no_root (work_of c.job t) has.opened.rows has.opened.type has.opened.root given.typed.rows given.typed.type given.bytes (work_makes c v d given t taken) has.opened.work)
 created_by c v d given calm t S.Refused taken (inl all) = absurd (no_answers (work_of c.job t) given.typed.rows given.typed.type given.bytes all.script.rows all.script.type all.script.start all.script.bytes (work_makes c v d given t taken) all.script.work)

@@ -32,7 +32,7 @@ use Rattle.ild_run.specs.Shown.{hash, Replied, ShownTold, ShownAs}
 use Rattle.ild_run_show.specs.Shows.{Shows}
 use Rattle.ild_run_show.specs.declared.fault.ShowFault.{ShowFault}
 use Rattle.ild_run_show.specs.declared.fault.ShowFault.TheVariants as W
-use Rattle.ild_run.specs.Ended.{Call, IsDue, AsksScript, StopsScript, Leaves, AnswersAll, AnswersSome, ListsSome, CreatesSome, ReadsRoot, HasRoot, reply_on, ShowsSome, Tells, TellsFront, Says, Ended}
+use Rattle.ild_run.specs.Ended.{Call, IsDue, AsksScript, StopsScript, Leaves, AnswersAll, AnswersSome, ListsSome, CreatesSome, OpensRoot, ReadsRoot, HasRoot, reply_on, ShowsSome, Tells, TellsFront, Says, Ended}
 use Rattle.ild_run.specs.declared.fault.Fault.{Fault}
 use Rattle.ild_run.specs.declared.fault.Fault.TheVariants as F
 use Rattle.ild_run.specs.declared.fault.Role.{Role}
@@ -167,16 +167,16 @@ says_root c t S.StoreFault some rose = absurd rose
 says_root c t S.Value some rose = absurd rose
 
 due_made : (c : Call) (t : Taking) (rows : List Row) (n : TypeNo) (b : List ℕ) (f : CreateFault) → work_of c.job t ≡ makes rows n b → IsTable rows → CreateAnswer hash rows n b c.before.moment (Err f) c.after.moment → IsDue c t (made_fault f)
-due_made c t rows n b (V.Refused r) work table answer = inr (record { value = record { rows = rows; type = n; bytes = b; work = work }; table = table; refused = answer.0 })
+due_made c t rows n b (V.Refused r) work table answer = inr (inl (record { value = record { rows = rows; type = n; bytes = b; work = work }; table = table; refused = answer.0 }))
 due_made c t rows n b V.Store work table answer = (answer.0, inr (inl (record { value = record { rows = rows; type = n; bytes = b; work = work }; tried = answer.1 })))
-due_made c t rows n b (V.Clash id) work table answer = inr (record { value = record { rows = rows; type = n; bytes = b; work = work }; table = table; clash = answer })
+due_made c t rows n b (V.Clash id) work table answer = inr (inl (record { value = record { rows = rows; type = n; bytes = b; work = work }; table = table; clash = answer }))
 due_made c t rows n b V.Memory work table answer = tt
 
 leaves_made : (c : Call) (t : Taking) (rows : List Row) (n : TypeNo) (b : List ℕ) (f : CreateFault) → work_of c.job t ≡ makes rows n b → IsTable rows → CreateAnswer hash rows n b c.before.moment (Err f) c.after.moment → Leaves c t (made_fault f)
-leaves_made c t rows n b (V.Refused r) work table answer = answer.1
+leaves_made c t rows n b (V.Refused r) work table answer = inl answer.1
 leaves_made c t rows n b V.Store work table answer = inr (inl (record { value = record { rows = rows; type = n; bytes = b; work = work }; tried = answer.1 }))
 leaves_made c t rows n b (V.Clash id) work table answer =
-    inr (record { value = record { rows = rows; type = n; bytes = b; work = work }; tried = answer.tried })
+    inr (inl (record { value = record { rows = rows; type = n; bytes = b; work = work }; tried = answer.tried }))
 leaves_made c t rows n b V.Memory work table answer = by answer where
   by : CreateAnswer hash rows n b c.before.moment (Err V.Memory) c.after.moment → Leaves c t F.Memory
   by (inl same) = inl same
@@ -229,12 +229,13 @@ says_present c t rows n id (Ok json) status work table shows told =
 says_present c t rows n id (Err W.Reserved) status work table shows told =
     says_reserved c t status (record { opened = record { rows = rows; type = n; root = id; work = work }; table = table; shown = shows.answer; reads = shows.reads; gets = shows.gets }) told
 says_present c t rows n id (Err (W.Block at why)) status work table shows told =
-    says_by c t (F.Root at why) status (inr (record { opened = record { rows = rows; type = n; root = id; work = work }; table = table; refused = shows.answer })) (inr (record { opened = record { rows = rows; type = n; root = id; work = work }; reads = shows.reads })) told.told
+    let opened : OpensRoot c t = record { rows = rows; type = n; root = id; work = work } in
+    says_by c t (F.Root at why) status (inr (inl (record { opened = opened; table = table; refused = shows.answer }))) (inr (inl (record { opened = opened; reads = shows.reads }))) told.told
 says_present c t rows n id (Err W.Store) status work table shows told =
     let reads : ReadsRoot c t = record { opened = record { rows = rows; type = n; root = id; work = work }; reads = shows.reads } in
-    says_by c t F.Store status (shows.answer, inr (inr reads)) (inr (inr reads)) told.told
+    says_by c t F.Store status (shows.answer, inr (inr (inl reads))) (inr (inr (inl reads))) told.told
 says_present c t rows n id (Err W.Memory) status work table shows told =
-    says_by c t F.Memory status tt (inr (inr (inr (record { opened = record { rows = rows; type = n; root = id; work = work }; reads = shows.reads })))) told.told
+    says_by c t F.Memory status tt (inr (inr (inr (inl (record { opened = record { rows = rows; type = n; root = id; work = work }; reads = shows.reads }))))) told.told
 
 pub ended_shown : (c : Call) (job : Job) (t : Taking) (rows : List Row) (n : TypeNo) (id : List ℕ) (status : Status) → c.job ≡ Some job → IsTaking job c.before.supply t → job_work job t ≡ opens rows n id
     → ShownAs rows n id c.before.moment c.before.output status c.after.moment c.after.output → Ended c status
@@ -270,7 +271,7 @@ module _ (c : Call) (t : Taking) (rows : List Row) (n : TypeNo) (start : Start) 
 
   leaves_started : (f : StartFault) → Stops hash rows n start c.before.moment f c.after.moment → Asks hash rows n start c.before.moment c.after.moment → Leaves c t (start_fault f)
   leaves_started (P.Block id why) stops asks = inl (asked asks)
-  leaves_started P.Mismatch stops asks = mismatch_same rows n start c.before.moment c.after.moment stops
+  leaves_started P.Mismatch stops asks = inl (mismatch_same rows n start c.before.moment c.after.moment stops)
   leaves_started P.Store stops asks = inl (asked asks)
   leaves_started (P.Clash id) stops asks = inl (asked asks)
   leaves_started P.Memory stops asks = inr (inl (asked asks))

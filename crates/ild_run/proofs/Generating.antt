@@ -12,11 +12,12 @@ use Rattle.ild_run_generate.specs.Words.{generation_in, generation_of}
 use Rattle.ild_run_generate.specs.declared.fault.GenerateFault.{GenerateFault}
 use Rattle.ild_run_generate.specs.declared.fault.GenerateFault.TheVariants as G
 use Rattle.ild_run_generate.specs.declared.summary.Summary.{Summary}
+use Rattle.ild_run.specs.Asked.{EndedBy}
 use Rattle.ild_run.specs.Complete.{IsComplete}
 use Rattle.ild_run.specs.Cut.{CutAs, ToldAs}
-use Rattle.ild_run.specs.Ended.{Call, Ended}
+use Rattle.ild_run.specs.Ended.{Call}
 use Rattle.ild_run.specs.Fault.{fault_text}
-use Rattle.ild_run.specs.Generator.{EndedBy, EndsGeneration, GenerationTold, LetsGenerate, GeneratesPlainly, IsCompleteBy, RunsGenerator, generate_fault}
+use Rattle.ild_run.specs.Generator.{EndsGeneration, GenerationTold, LetsGenerate, GeneratesPlainly, IsCompleteBy, RunsGenerator, generate_fault}
 use Rattle.ild_run.specs.Words.{Job, job_in, job_of}
 use Rattle.ild_run.specs.declared.fault.Fault.TheVariants as F
 use Rattle.ild_run.specs.declared.status.Status.{Status}
@@ -46,11 +47,13 @@ complete_none c status none = record {
   compares = λ given calm. absurd (never c.job _ none given.job);
   verifies = λ given calm. absurd (never c.job _ none given.job);
   keeps = λ script given calm. absurd (never c.job _ none given.job);
+  proves = λ v given calm. absurd (never c.job _ none given.job);
+  migrates = λ v given lets. absurd (never c.job _ none given.job);
 }
 
 -- ---- a sink that doesn't fail
 
-cut_memory : (m n : Output) (status : Status) → (Rose m.faults n.faults → ⊥) → CutAs m status n → status ≡ S.Memory
+pub cut_memory : (m n : Output) (status : Status) → (Rose m.faults n.faults → ⊥) → CutAs m status n → status ≡ S.Memory
 cut_memory m n S.SinkFault calm cut = absurd (calm cut)
 cut_memory m n S.Memory calm cut = refl
 cut_memory m n S.Done calm cut = absurd cut
@@ -96,8 +99,8 @@ module _ (seed count : ℕ) (c : Call) (status : Status) (ends : EndsGeneration 
 
 -- ---- as the words ask
 
-pub something_else : (o : Option (ℕ × ℕ)) (c : Call) (status : Status) → o ≡ None → Ended c status → EndedBy o c status
-something_else o c status is ended = subst (λ o. EndedBy o c status) (sym is) ended
+pub something_else : (o : Option (ℕ × ℕ)) (root : Option (List ℕ)) (c : Call) (status : Status) → o ≡ None → EndedBy None root c status → EndedBy o root c status
+something_else o root c status is ended = subst (λ o. EndedBy o root c status) (sym is) ended
 
 pub nothing_generated : (o : Option (ℕ × ℕ)) (c : Call) (status : Status) → o ≡ None → IsCompleteBy o c status
 nothing_generated o c status is = subst (λ o. IsCompleteBy o c status) (sym is) tt
@@ -107,8 +110,8 @@ module _ (o : Option (ℕ × ℕ)) (count seed : ℕ) (c : Call) (status : Statu
   ends : EndsGeneration seed count c status
   ends = record { runs = runs; same = same }
 
-  pub generation_ended : EndedBy o c status
-  generation_ended = subst (λ o. EndedBy o c status) (sym is) ends
+  pub generation_ended : (root : Option (List ℕ)) → EndedBy o root c status
+  generation_ended root = subst (λ o. EndedBy o root c status) (sym is) ends
 
   pub all_generated : IsCompleteBy o c status
   all_generated = subst (λ o. IsCompleteBy o c status) (sym is) (λ held tests told are lets. plain seed count c status ends held tests told are lets)

@@ -1,6 +1,6 @@
 -- Taking the input of a script over named heads, and how a call ends that answers it.
 use Rattle.std.specs.Prelude.{length, ◌<◌, Bool, false, true}
-use Rattle.std.proofs.Common.{◌≡◌, ℕ, ◌≤◌, List, IfOk, Option, Some, None, Result, Ok, Err, refl, sym, ap, ◌∙◌, subst, arith, inr}
+use Rattle.std.proofs.Common.{◌≡◌, ℕ, ◌≤◌, List, IfOk, Option, Some, None, Result, Ok, Err, refl, sym, ap, ◌∙◌, subst, arith, inl, inr}
 use Rattle.std.proofs.lemmas.Bool.{false≢true}
 use Rattle.ild_compile.specs.Compile.{table}
 use Rattle.ild_edges.specs.Inputs.{Supply, MayBe}
@@ -107,10 +107,10 @@ opens_heads k n rows ty script t result named within takes m name b is compiles 
 
 module _ (c : Call) (t : Taking) (rows : List Row) (n : TypeNo) (b : List ℕ) (work : work_of c.job t ≡ serves rows n b) (table : IsTable rows) where
   says_headed : (result : Result Bool Cut) (status : Status) → HeadsAnswer (rules_of rows n) b c.before.moment c.before.output result c.after.moment c.after.output → status ≡ headed_status result → Says c t status
-  says_headed (Ok false) status answer is = subst (λ (s : Status). Says c t s) (sym is) (inr (inr (inr (inr (inr (inr (record { script = record { rows = rows; type = n; bytes = b; work = work }; table = table; all = answer })))))))
+  says_headed (Ok false) status answer is = subst (λ (s : Status). Says c t s) (sym is) (inr (inr (inr (inr (inr (inr (inl (record { script = record { rows = rows; type = n; bytes = b; work = work }; table = table; all = answer }))))))))
   says_headed (Ok true) status answer is = subst (λ (s : Status). Says c t s) (sym is) (inr (inr (inr (inr (record { script = record { rows = rows; type = n; bytes = b; work = work }; table = table; all = answer })))))
-  says_headed (Err C.Sink) status answer is = subst (λ (s : Status). Says c t s) (sym is) (answer.0, inr (inr (inr (inr (inr (inr (inr (record { script = record { rows = rows; type = n; bytes = b; work = work }; table = table; some = answer.1 }))))))))
-  says_headed (Err C.Memory) status answer is = subst (λ (s : Status). Says c t s) (sym is) (inr (inr (inr (inr (inr (inr (inr (inr (record { script = record { rows = rows; type = n; bytes = b; work = work }; table = table; some = answer })))))))))
+  says_headed (Err C.Sink) status answer is = subst (λ (s : Status). Says c t s) (sym is) (answer.0, inr (inr (inr (inr (inr (inr (inr (inl (record { script = record { rows = rows; type = n; bytes = b; work = work }; table = table; some = answer.1 })))))))))
+  says_headed (Err C.Memory) status answer is = subst (λ (s : Status). Says c t s) (sym is) (inr (inr (inr (inr (inr (inr (inr (inr (inl (record { script = record { rows = rows; type = n; bytes = b; work = work }; table = table; some = answer }))))))))))
 
 pub ended_headed : (c : Call) (job : Job) (t : Taking) (rows : List Row) (n : TypeNo) (b : List ℕ) (status : Status) → c.job ≡ Some job → IsTaking job c.before.supply t → job_work job t ≡ serves rows n b
     → HeadedAs rows n b c.before.moment c.before.output status c.after.moment c.after.output → Ended c status

@@ -12,10 +12,10 @@ use Rattle.ild_schema.specs.declared.number.TypeNo.{TypeNo}
 use Rattle.ild_schema.specs.declared.row.Row.{Row}
 use Rattle.ild_script_session.specs.declared.cut.Cut.TheVariants as C
 use Rattle.ild_run.specs.Cut.{ToldAs}
-use Rattle.ild_run.specs.Ended.{Call, MatchesTypes, MatchesSome, Says, Ended}
+use Rattle.ild_run.specs.Ended.{Call, AsksStore, MatchesTypes, MatchesSome, Says, Ended}
 use Rattle.ild_run.specs.inside.Matched.{MatchedTold, MatchedAs}
 use Rattle.ild_run.specs.Words.{Job}
-use Rattle.ild_run.specs.Work.{Work, Taking, ends, lists, matches, answers, makes, opens, weighs, serves, work_of, job_work, IsTaking}
+use Rattle.ild_run.specs.Work.{Work, Taking, ends, lists, matches, answers, makes, opens, weighs, serves, seeks, moves, work_of, job_work, IsTaking}
 use Rattle.ild_run.specs.declared.fault.Fault.TheVariants as F
 use Rattle.ild_run.specs.declared.status.Status.{Status}
 use Rattle.ild_run.proofs.Endings.{are_taken, is_work, says_by}
@@ -31,6 +31,8 @@ sort_of (makes rows n b) = 4
 sort_of (opens rows n id) = 5
 sort_of (weighs rows n id path b) = 6
 sort_of (serves rows n b) = 7
+sort_of (seeks rows n id path) = 8
+sort_of (moves rows n id name source) = 9
 
 -- a work, or want of memory in its place, is none of another sort
 pub other_sort : (w a b : Work) → (w ≡ a) ⊎ (w ≡ ends F.Memory) → w ≡ b → nat_eq (sort_of a) (sort_of b) ≡ false → nat_eq 0 (sort_of b) ≡ false → ⊥
@@ -38,6 +40,27 @@ other_sort w a b (inl is) work other some =
     let P : Work → Type 0 = λ x. nat_eq (sort_of x) (sort_of b) ≡ false in
     false≢true (sym (subst P (sym is ∙ work) other) ∙ eq-eqb (sort_of b) (sort_of b) refl)
 other_sort w a b (inr is) work other some = false≢true (sym some ∙ ap (λ x. nat_eq 0 (sort_of x)) (sym work ∙ is))
+
+-- it asks something of the store
+abbrev asks_store : Work → Bool
+asks_store (answers rows n start b) = true
+asks_store (makes rows n b) = true
+asks_store (opens rows n id) = true
+asks_store (seeks rows n id path) = true
+asks_store (moves rows n id name source) = true
+asks_store w = false
+
+asked : (c : Call) (t : Taking) → AsksStore c t → asks_store (work_of c.job t) ≡ true
+asked c t (inl asks) = ap asks_store asks.script.work
+asked c t (inr (inl tries)) = ap asks_store tries.value.work
+asked c t (inr (inr (inl reads))) = ap asks_store reads.opened.work
+asked c t (inr (inr (inr (inl reads)))) = ap asks_store reads.sought.work
+asked c t (inr (inr (inr (inr moved)))) = ap asks_store moved.to.moved.work
+
+-- of a work that asks nothing of it, or want of memory in its place, nothing was asked
+pub asks_not : (c : Call) (t : Taking) (a : Work) → (work_of c.job t ≡ a) ⊎ (work_of c.job t ≡ ends F.Memory) → asks_store a ≡ false → AsksStore c t → ⊥
+asks_not c t a (inl is) other asks = false≢true (sym other ∙ (ap asks_store (sym is) ∙ asked c t asks))
+asks_not c t a (inr is) other asks = false≢true (ap asks_store (sym is) ∙ asked c t asks)
 
 -- ---- how the call ends
 

@@ -16,7 +16,7 @@ use Rattle.ild_run.specs.declared.fault.Fault.TheVariants as F
 use Rattle.ild_run.specs.declared.fault.Role.{Role}
 use Rattle.ild_run.specs.declared.fault.Trouble.TheVariants as T
 use Rattle.ild_run_open.specs.declared.start.Start.{Start}
-use Rattle.ild_run.specs.Words.{Job, checks, compares, runs, creates, shows, verifies, keeps, name_of}
+use Rattle.ild_run.specs.Words.{Job, checks, compares, runs, creates, shows, verifies, keeps, proves, migrates, name_of}
 use Rattle.ild_run.specs.Work.{Taking, in_roles, run_work, type_work, root_work, IsVerdict, IsUnder, IsTaking, AreTaken}
 use Rattle.ild_run.specs.declared.open.Task.{Task}
 use Rattle.ild_run.specs.declared.open.Task.TheVariants as P
@@ -40,6 +40,8 @@ other_name (creates schema ty value) = Some value
 other_name (shows schema ty id) = None
 other_name (verifies schema ty id path proof) = Some proof
 other_name (keeps schema ty script) = Some script
+other_name (proves schema ty id path) = None
+other_name (migrates schema ty id) = None
 
 -- it is the script's or the value's
 other_role_is : (job : Job) (m : Supply) (other : Taken) → IsUnder m other (other_name job) → IsUnder m other (name_of Role.Script job) × IsUnder m other (name_of Role.Value job)
@@ -50,6 +52,8 @@ other_role_is (creates schema ty value) m other is = (tt, is)
 other_role_is (shows schema ty id) m other is = (tt, tt)
 other_role_is (verifies schema ty id path proof) m other is = (tt, tt)
 other_role_is (keeps schema ty script) m other is = (is, tt)
+other_role_is (proves schema ty id path) m other is = (tt, tt)
+other_role_is (migrates schema ty id) m other is = (tt, tt)
 
 -- or the later schema's
 next_role_is : (job : Job) (m : Supply) (other : Taken) → IsUnder m other (other_name job) → IsUnder m other (name_of Role.Next job)
@@ -60,6 +64,8 @@ next_role_is (creates schema ty value) m other is = tt
 next_role_is (shows schema ty id) m other is = tt
 next_role_is (verifies schema ty id path proof) m other is = tt
 next_role_is (keeps schema ty script) m other is = tt
+next_role_is (proves schema ty id path) m other is = tt
+next_role_is (migrates schema ty id) m other is = tt
 
 -- or the proof's
 proof_role_is : (job : Job) (m : Supply) (other : Taken) → IsUnder m other (other_name job) → IsUnder m other (name_of Role.Proof job)
@@ -70,6 +76,8 @@ proof_role_is (creates schema ty value) m other is = tt
 proof_role_is (shows schema ty id) m other is = tt
 proof_role_is (verifies schema ty id path proof) m other is = is
 proof_role_is (keeps schema ty script) m other is = tt
+proof_role_is (proves schema ty id path) m other is = tt
+proof_role_is (migrates schema ty id) m other is = tt
 
 pub all_roles : (job : Job) (m : Supply) (schema other : Taken) → IsUnder m schema (name_of Role.Schema job) → IsUnder m other (other_name job) → (role : Role) → IsUnder m (in_roles schema other role) (name_of role job)
 all_roles job m schema other one two Role.Schema = one

@@ -1,6 +1,6 @@
 -- Taking the input of a proof.
 use Rattle.std.specs.Borrow.{Bor}
-use Rattle.std.specs.Prelude.{length, ◌<◌, option_map}
+use Rattle.std.specs.Prelude.{length, ◌<◌}
 use Rattle.std.proofs.Common.{◌≡◌, ℕ, ◌≤◌, List, IfOk, Option, Some, None, Result, Ok, Err, refl, sym, ap, subst, arith}
 use Rattle.ild_compile.specs.Compile.{table}
 use Rattle.ild_data.specs.declared.id.BlockId.{BlockId}

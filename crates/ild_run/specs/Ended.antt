@@ -1,5 +1,5 @@
 -- How a call ends: the status, what is written, and the cause.
-use Rattle.std.specs.Prelude.{◌≡◌, ◌⊎◌, ℕ, List, Bool, true, false, Option, Some, None}
+use Rattle.std.specs.Prelude.{◌≡◌, ◌⊎◌, ℕ, List, Bool, true, false, Option, Some, None, Result, Ok, Err}
 use Rattle.ild_edges.specs.Count.{Rose}
 use Rattle.ild_edges.specs.Inputs.{Supply}
 use Rattle.ild_edges.specs.Sink.{Output, Appends, AppendsFront}
@@ -29,10 +29,14 @@ use Rattle.ild_run.specs.Shown.{hash, reserved}
 use Rattle.ild_compat.specs.declared.rule.Differ.{Differ}
 use Rattle.ild_run_compare.specs.Compared.{IsTold, IsCutOff}
 use Rattle.ild_run_heads.specs.Heads.{HeadsDone, HeadsCut}
+use Rattle.ild_run_named.specs.Migrates.{Migrates}
+use Rattle.ild_run_named.specs.declared.migrating.MigrateFault.{MigrateFault}
+use Rattle.ild_run_named.specs.declared.migrating.MigrateFault.TheVariants as X
 use Rattle.ild_run_work.specs.Rules.{rules_of}
 use Rattle.ild_script.specs.Line.{lines_of}
+use Rattle.ild_run_prove.specs.Proved.{NotProved, ProvesPath}
 use Rattle.ild_run_verify.specs.Verified.{SaysNothing, IsTold as IsSaid, IsCutOff as IsSaidFront}
-use Rattle.ild_run.specs.Work.{Taking, ends, lists, matches, answers, makes, opens, weighs, serves, work_of, AreTaken, Reaches}
+use Rattle.ild_run.specs.Work.{Taking, ends, lists, matches, answers, makes, opens, weighs, serves, seeks, moves, work_of, AreTaken, Reaches}
 use Rattle.ild_run.specs.Fault.{fault_text}
 use Rattle.ild_run.specs.Listed.{Lists, ListsFront}
 use Rattle.ild_run.specs.declared.fault.Fault.{Fault}
@@ -110,6 +114,23 @@ pub record ServesHeads (c : Call) (t : Taking) : Type 0 where
   pub bytes : List ℕ
   pub work : work_of c.job t ≡ serves rows type bytes
 
+-- a path in the value under a root, at which it is to be proved what stands there
+pub record SeeksPath (c : Call) (t : Taking) : Type 0 where
+  pub rows : List Row
+  pub type : TypeNo
+  pub root : List ℕ
+  pub path : List (List ℕ)
+  pub work : work_of c.job t ≡ seeks rows type root path
+
+-- a value that is to be given a root that names its type and its schema so
+pub record MovesRoot (c : Call) (t : Taking) : Type 0 where
+  pub rows : List Row
+  pub type : TypeNo
+  pub root : List ℕ
+  pub name : List ℕ
+  pub source : List ℕ
+  pub work : work_of c.job t ≡ moves rows type root name source
+
 -- ---- what became of it
 
 -- a script was to be run, and nothing was asked of the store but what opening its document asks
@@ -151,6 +172,40 @@ pub record LacksRoot (c : Call) (t : Taking) (id : List ℕ) (why : BlockWhy) : 
   pub table : IsTable opened.rows
   pub refused : NotOpened hash opened.rows opened.type opened.root c.before.moment id why c.after.moment
 
+-- what stands at a path was to be proved, and nothing was asked of the store but to get blocks
+pub record ReadsPath (c : Call) (t : Taking) : Type 0 where
+  pub sought : SeeksPath c t
+  pub reads : OnlyReads c.before.moment c.after.moment
+
+-- no value of the type stands under the root of the path: this block isn't held, or isn't what has to stand there
+pub record LacksPath (c : Call) (t : Taking) (id : List ℕ) (why : BlockWhy) : Type 0 where
+  pub sought : SeeksPath c t
+  pub table : IsTable sought.rows
+  pub refused : NotProved hash sought.rows sought.type sought.root sought.path c.before.moment id why c.after.moment
+
+-- A value was to be given a root that names its schema, and this came of it: the new root, beneath which it stands; or the cause why there
+-- is none. Nothing was asked of the store but what this asks.
+pub record MovesTo (c : Call) (t : Taking) (result : Result BlockId MigrateFault) : Type 0 where
+  pub moved : MovesRoot c t
+  pub table : IsTable moved.rows
+  pub migrates : Migrates hash moved.rows moved.type moved.root moved.name moved.source c.before.moment result c.after.moment
+
+-- whatever came of it
+pub record AsksMove (c : Call) (t : Taking) : Type 0 where
+  pub result : Result BlockId MigrateFault
+  pub to : MovesTo c t result
+
+-- it nests too many levels for such a root; or else the root's block or the schema's would be too long
+abbrev pub RefusesMove : Call → Taking → Refusal → Type 0
+RefusesMove c t N.Depth = MovesTo c t (Err X.Depth)
+RefusesMove c t N.Size = MovesTo c t (Err X.Size)
+RefusesMove c t r = ⊥
+
+-- The call came to a script's document, to a new value, to a root, to a path or to a value that is given another root, and nothing was asked
+-- of the store but what opening the document asks, to keep blocks of the new value, to get blocks, or what giving the other root asks.
+abbrev pub AsksStore : Call → Taking → Type 0
+AsksStore c t = AsksScript c t ⊎ (TriesValue c t ⊎ (ReadsRoot c t ⊎ (ReadsPath c t ⊎ AsksMove c t)))
+
 -- what was to be a proof isn't one, or something is wrong with a block of it
 pub record RefusesProof (c : Call) (t : Taking) : Type 0 where
   pub proof : WeighsProof c t
@@ -161,21 +216,21 @@ pub record RefusesProof (c : Call) (t : Taking) : Type 0 where
 abbrev pub IsDue : Call → Taking → Fault → Type 0
 IsDue c t (F.Input role T.Failed) = Rose c.before.supply.faults c.after.supply.faults × Reaches role c.job t
 IsDue c t (F.Input role trouble) = (work_of c.job t ≡ ends (F.Input role trouble)) × Rose c.before.supply.lacks c.after.supply.lacks
-IsDue c t F.Store = Rose c.before.moment.faults c.after.moment.faults × (AsksScript c t ⊎ (TriesValue c t ⊎ ReadsRoot c t))
-IsDue c t (F.Clash id) = StopsScript c t (P.Clash id) ⊎ ClashesValue c t id.0
-IsDue c t (F.Value r) = ((r ≡ N.Mismatch) × StopsScript c t P.Mismatch) ⊎ RefusesValue c t r
+IsDue c t F.Store = Rose c.before.moment.faults c.after.moment.faults × AsksStore c t
+IsDue c t (F.Clash id) = StopsScript c t (P.Clash id) ⊎ (ClashesValue c t id.0 ⊎ MovesTo c t (Err (X.Clash id)))
+IsDue c t (F.Value r) = ((r ≡ N.Mismatch) × StopsScript c t P.Mismatch) ⊎ (RefusesValue c t r ⊎ RefusesMove c t r)
 IsDue c t F.Proof = RefusesProof c t
-IsDue c t (F.Root id why) = StopsScript c t (P.Block id why) ⊎ LacksRoot c t id.0 why
+IsDue c t (F.Root id why) = StopsScript c t (P.Block id why) ⊎ (LacksRoot c t id.0 why ⊎ (LacksPath c t id.0 why ⊎ MovesTo c t (Err (X.Block id why))))
 IsDue c t F.Memory = Unit {0}
 IsDue c t f = work_of c.job t ≡ ends f
 
--- What a fault leaves of the store: it is as it was, unless the call came to a script's document, to a new value, or to a root; then
--- nothing was asked of the store but what opening the document asks, to keep blocks of the new value, or to get blocks.
+-- what a fault leaves of the store: it is as it was, unless the call came to where something is asked of it
 abbrev pub Leaves : Call → Taking → Fault → Type 0
-Leaves c t F.Store = AsksScript c t ⊎ (TriesValue c t ⊎ ReadsRoot c t)
-Leaves c t (F.Clash id) = AsksScript c t ⊎ TriesValue c t
-Leaves c t (F.Root id why) = AsksScript c t ⊎ ReadsRoot c t
-Leaves c t F.Memory = (c.after.moment ≡ c.before.moment) ⊎ (AsksScript c t ⊎ (TriesValue c t ⊎ ReadsRoot c t))
+Leaves c t F.Store = AsksStore c t
+Leaves c t (F.Clash id) = AsksScript c t ⊎ (TriesValue c t ⊎ MovesTo c t (Err (X.Clash id)))
+Leaves c t (F.Root id why) = AsksScript c t ⊎ (ReadsRoot c t ⊎ (ReadsPath c t ⊎ MovesTo c t (Err (X.Block id why))))
+Leaves c t F.Memory = (c.after.moment ≡ c.before.moment) ⊎ AsksStore c t
+Leaves c t (F.Value r) = (c.after.moment ≡ c.before.moment) ⊎ RefusesMove c t r
 Leaves c t f = c.after.moment ≡ c.before.moment
 
 -- every line of the script was answered, and all replies were written
@@ -290,14 +345,47 @@ pub record HeadsSome (c : Call) (t : Taking) : Type 0 where
   pub table : IsTable script.rows
   pub some : HeadsCut (rules_of script.rows script.type) c.before.moment (lines_of script.bytes) c.after.moment c.before.output.written c.after.output.written
 
+-- What stands at the path was proved by the blocks that have this JSON, and nothing was asked of the store but to get blocks, no more of them
+-- than the value has that stands there in a store that tells what it holds, and beside them the nodes on the path's way.
+pub record MakesProof (c : Call) (t : Taking) (json : List ℕ) : Type 0 where
+  pub sought : SeeksPath c t
+  pub table : IsTable sought.rows
+  pub proved : ProvesPath hash sought.rows sought.type sought.root sought.path c.before.moment (Ok json) c.after.moment
+
+-- the proof was written: `ok JSON`
+pub record WritesProof (c : Call) (t : Taking) : Type 0 where
+  pub json : List ℕ
+  pub made : MakesProof c t json
+  pub written : Appends c.before.output.written c.after.output.written (reply_text (R.Ok json))
+
+-- a front of that line was written
+pub record WritesSome (c : Call) (t : Taking) : Type 0 where
+  pub json : List ℕ
+  pub made : MakesProof c t json
+  pub written : AppendsFront c.before.output.written c.after.output.written (reply_text (R.Ok json))
+
+-- the value under a bare root has one that names its schema, and the line of that root was written
+pub record NamesRoot (c : Call) (t : Taking) : Type 0 where
+  pub root : BlockId
+  pub has : MovesTo c t (Ok root)
+  pub written : Appends c.before.output.written c.after.output.written (reply_text (R.Root root))
+
+-- a front of that line was written
+pub record NamesSome (c : Call) (t : Taking) : Type 0 where
+  pub root : BlockId
+  pub has : MovesTo c t (Ok root)
+  pub written : AppendsFront c.before.output.written c.after.output.written (reply_text (R.Root root))
+
 -- the text that was due was cut off
 abbrev pub IsCut : Call → Taking → Type 0
-IsCut c t = TellsFront c t ⊎ (AnswersSome c t ⊎ (ListsSome c t ⊎ (CreatesSome c t ⊎ (ShowsSome c t ⊎ (MatchesSome c t ⊎ (VerifiesSome c t ⊎ HeadsSome c t))))))
+IsCut c t =
+    TellsFront c t ⊎ (AnswersSome c t ⊎ (ListsSome c t ⊎ (CreatesSome c t ⊎ (ShowsSome c t ⊎ (MatchesSome c t ⊎ (VerifiesSome c t ⊎ (HeadsSome c t ⊎ (WritesSome c t ⊎ NamesSome c t))))))))
 
 -- what a status says
 abbrev pub Says : Call → Taking → Status → Type 0
 Says c t S.Done =
-    AnswersAll c t false ⊎ (ListsNames c t ⊎ (CreatesValue c t ⊎ (((json : List ℕ) × ShowsRoot c t (Some json)) ⊎ (MatchesTypes c t None ⊎ (VerifiesPath c t false ⊎ HeadsAll c t false)))))
+    AnswersAll c t false ⊎ (ListsNames c t ⊎ (CreatesValue c t ⊎ (((json : List ℕ) × ShowsRoot c t (Some json))
+    ⊎ (MatchesTypes c t None ⊎ (VerifiesPath c t false ⊎ (HeadsAll c t false ⊎ (WritesProof c t ⊎ NamesRoot c t)))))))
 Says c t S.Refused = AnswersAll c t true ⊎ (ShowsRoot c t None ⊎ (((d : Differ) × MatchesTypes c t (Some d)) ⊎ (VerifiesPath c t true ⊎ HeadsAll c t true)))
 Says c t S.Words = Tells c t F.Words
 Says c t S.Schema = (f : SchemaFault) × Tells c t (F.Schema f)

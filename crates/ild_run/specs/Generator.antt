@@ -14,7 +14,7 @@ use Rattle.ild_run_generate.specs.declared.fault.GenerateFault.TheVariants as G
 use Rattle.ild_run_generate.specs.declared.summary.Summary.{Summary}
 use Rattle.ild_script_session.specs.Plain.{AreApart}
 use Rattle.ild_run.specs.Cut.{CutAs, ToldAs}
-use Rattle.ild_run.specs.Ended.{Call, Ended}
+use Rattle.ild_run.specs.Ended.{Call}
 use Rattle.ild_run.specs.declared.fault.Fault.{Fault}
 use Rattle.ild_run.specs.declared.fault.Fault.TheVariants as F
 use Rattle.ild_run.specs.declared.status.Status.{Status}
@@ -43,11 +43,6 @@ pub record RunsGenerator (seed count : ℕ) (m : Moment) (was : Output) (status 
 pub record EndsGeneration (seed count : ℕ) (c : Call) (status : Status) : Type 0 where
   pub runs : RunsGenerator seed count c.before.moment c.before.output status c.after.moment c.after.output
   pub same : c.after.supply ≡ c.before.supply
-
--- as the words ask: so many steps from a seed, or something else
-abbrev pub EndedBy : Option (ℕ × ℕ) → Call → Status → Type 0
-EndedBy None c status = Ended c status
-EndedBy (Some g) c status = EndsGeneration g.1 g.0 c status
 
 -- ---- where nothing stands in the way
 

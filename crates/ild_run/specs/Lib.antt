@@ -8,4 +8,6 @@ pub mod Shown
 pub mod Ended
 pub mod Complete
 pub mod Generator
+pub mod Named
+pub mod Asked
 pub mod inside

@@ -16,10 +16,9 @@ use Rattle.ild_run.specs.declared.open.Job.TheVariants as J
 use Rattle.ild_run.specs.declared.open.Task.{Task}
 use Rattle.ild_run.specs.declared.open.Task.TheVariants as P
 use Rattle.ild_run_open.specs.declared.start.Start.{Start}
-use Rattle.ild_run.specs.Words.{Job, checks, compares, runs, creates, shows, verifies, keeps, start_of_text}
-use Rattle.ild_data_root.specs.Root.{root_of_text}
+use Rattle.ild_run.specs.Words.{Job, checks, compares, runs, creates, shows, verifies, keeps, proves, migrates, start_of_text}
 use Rattle.ild_script.specs.Path.{path_of}
-use Rattle.ild_run.specs.Work.{Work, Taking, ends, lists, matches, answers, makes, opens, weighs, serves, types_work, job_work, IsTaking, TakesForRole}
+use Rattle.ild_run.specs.Work.{Work, Taking, ends, lists, matches, answers, makes, opens, weighs, serves, seeks, moves, types_work, job_work, IsTaking, TakesForRole}
 
 -- the job that the program holds
 abbrev pub job_seen : Held → Job
@@ -30,15 +29,18 @@ job_seen (J.New schema ty value) = creates schema.now ty.now value.now
 job_seen (J.Show schema ty root) = shows schema.now ty.now root.0
 job_seen (J.Verify schema ty root path proof) = verifies schema.now ty.now root.0 path proof.now
 job_seen (J.Heads schema ty script) = keeps schema.now ty.now script.now
+job_seen (J.Prove schema ty root path) = proves schema.now ty.now root.0 path
+job_seen (J.Migrate schema ty root) = migrates schema.now ty.now root.0
 
 -- what words ask for; memory may be wanting to read a root or a path
 abbrev pub AsksFor : Option Job → Result (Option Held) Fault → Type 0
 AsksFor job (Ok found) = option_map job_seen found ≡ job
 AsksFor job (Err f) = f ≡ F.Memory
 
-abbrev pub AsksRoot : List ℕ → Result (Option BlockId) Fault → Type 0
-AsksRoot text (Ok found) = option_map (λ (id : BlockId). id.0) found ≡ root_of_text text
-AsksRoot text (Err f) = f ≡ F.Memory
+-- the block id that is asked for, or none
+abbrev pub AsksRoot : Option (List ℕ) → Result (Option BlockId) Fault → Type 0
+AsksRoot root (Ok found) = option_map (λ (id : BlockId). id.0) found ≡ root
+AsksRoot root (Err f) = f ≡ F.Memory
 
 abbrev pub AsksPath : List ℕ → Result (Option (List (List ℕ))) Fault → Type 0
 AsksPath text (Ok found) = found ≡ path_of text
@@ -86,6 +88,8 @@ work_seen (P.Create rows n b) = makes rows n b
 work_seen (P.Show rows n id) = opens rows n id.0
 work_seen (P.Verify rows n id path b) = weighs rows n id.0 path.now b
 work_seen (P.Serve rows n b) = serves rows n b
+work_seen (P.Prove rows n id path) = seeks rows n id.0 path.now
+work_seen (P.Migrate rows n id name source) = moves rows n id.0 name.now source
 
 -- a value has a type of its table
 abbrev pub IsReady : Task → Type 0
@@ -96,6 +100,8 @@ IsReady (P.Create rows n b) = n.0 < length rows
 IsReady (P.Show rows n id) = n.0 < length rows
 IsReady (P.Verify rows n id path b) = n.0 < length rows
 IsReady (P.Serve rows n b) = n.0 < length rows
+IsReady (P.Prove rows n id path) = n.0 < length rows
+IsReady (P.Migrate rows n id name source) = n.0 < length rows
 
 abbrev pub OpensAnswer : Supply → Job → Taking → Result Task Fault → Supply → Type 0
 OpensAnswer m job t (Ok task) n = job_work job t ≡ work_seen task
@@ -113,6 +119,11 @@ pub record TakesInputs (m : Supply) (job : Job) (result : Result Task Fault) (n 
 abbrev pub OpensBehind : Supply → List Row → (List ℕ → Job) → Result Task Fault → Supply → Type 0
 OpensBehind k rows job result n =
     (m : Supply) (name bytes : List ℕ) → MayBe m.files name (Taken.Bytes bytes) → Compiles bytes (table rows) → After m k → TakesInputs m (job name) result n
+
+-- and where the schema's bytes are these
+abbrev pub OpensFrom : List ℕ → Supply → List Row → (List ℕ → Job) → Result Task Fault → Supply → Type 0
+OpensFrom bytes k rows job result n =
+    (m : Supply) (name : List ℕ) → MayBe m.files name (Taken.Bytes bytes) → Compiles bytes (table rows) → After m k → TakesInputs m (job name) result n
 
 -- whether two tables have a type with one name
 abbrev pub TypesAnswer : List Row → List Row → List ℕ → Result Task Fault → Type 0

@@ -1,5 +1,5 @@
 -- What a call has to do, by its words and its inputs.
-use Rattle.std.specs.Prelude.{◌≡◌, ℕ, List, Option, Some, None}
+use Rattle.std.specs.Prelude.{◌≡◌, ℕ, List, [], Option, Some, None}
 use Rattle.ild_compile.specs.Compile.{Verdict, table, faulty, Compiles}
 use Rattle.ild_edges.specs.Inputs.{Supply, MayBe}
 use Rattle.ild_edges.specs.declared.inputs.Taken.{Taken}
@@ -11,12 +11,13 @@ use Rattle.ild_run.specs.declared.fault.Fault.TheVariants as F
 use Rattle.ild_run.specs.declared.fault.Role.{Role}
 use Rattle.ild_run.specs.declared.fault.Trouble.TheVariants as T
 use Rattle.ild_run_open.specs.declared.start.Start.{Start}
-use Rattle.ild_run.specs.Words.{Job, checks, compares, runs, creates, shows, verifies, keeps, name_of}
+use Rattle.ild_run.specs.Words.{Job, checks, compares, runs, creates, shows, verifies, keeps, proves, migrates, name_of}
 
 -- the call ends with a fault, lists names, answers the lines of a script on a value of a type of a table, which starts so, creates a value
 -- of such a type from bytes, or opens the one that stands under a block id; or it tells how a type of a table and one of a later table compare,
 -- or what bytes say, as a proof, of a path in the value of a type under a block id; or it answers the lines of a script over named heads, under
--- which values of a type of a table stand
+-- which values of a type of a table stand; or it proves what stands at a path in the value of a type under a block id; or it gives that value a
+-- root that names its type so, and its schema by this text
 pub data Work : Type 0 where
   ends : Fault → Work
   lists : List (List ℕ) → Work
@@ -26,6 +27,8 @@ pub data Work : Type 0 where
   opens : List Row → TypeNo → List ℕ → Work
   weighs : List Row → TypeNo → List ℕ → List (List ℕ) → List ℕ → Work
   serves : List Row → TypeNo → List ℕ → Work
+  seeks : List Row → TypeNo → List ℕ → List (List ℕ) → Work
+  moves : List Row → TypeNo → List ℕ → List ℕ → List ℕ → Work
 
 -- what is taken of the inputs in each role, or would be, and what the schema and a later one are compiled to, or none where memory is wanting
 -- for it
@@ -86,6 +89,14 @@ abbrev pub keep_work : List Row → Option ℕ → Taken → Work
 keep_work rows None script = ends F.Words
 keep_work rows (Some n) script = heads_work rows (record { 0 = n }) script
 
+abbrev pub seek_work : List Row → Option ℕ → List ℕ → List (List ℕ) → Work
+seek_work rows None id path = ends F.Words
+seek_work rows (Some n) id path = seeks rows (record { 0 = n }) id path
+
+abbrev pub move_work : List Row → Option ℕ → List ℕ → List ℕ → List ℕ → Work
+move_work rows None id name source = ends F.Words
+move_work rows (Some n) id name source = moves rows (record { 0 = n }) id name source
+
 -- a later schema is taken and compiled once the first is; then the type's name has to be one of both tables
 abbrev pub types_work : List Row → List Row → Option ℕ → Option ℕ → Work
 types_work rows others None found = ends F.Words
@@ -102,6 +113,11 @@ next_work rows ty Taken.Absent verdict = ends (F.Input Role.Next T.Absent)
 next_work rows ty Taken.Long verdict = ends (F.Input Role.Next T.Long)
 next_work rows ty (Taken.Bytes b) verdict = next_compiled rows ty verdict
 
+-- the text of a schema that was compiled
+abbrev pub source_in : Taken → List ℕ
+source_in (Taken.Bytes b) = b
+source_in taken = []
+
 -- what a job does with a table
 abbrev pub table_work : Job → List Row → Taking → Work
 table_work (checks schema) rows t = lists (declared_names rows)
@@ -111,6 +127,8 @@ table_work (creates schema ty value) rows t = type_work rows (number_named ty ro
 table_work (shows schema ty id) rows t = root_work rows (number_named ty rows) id
 table_work (verifies schema ty id path proof) rows t = verify_work rows (number_named ty rows) id path (t.input Role.Proof)
 table_work (keeps schema ty script) rows t = keep_work rows (number_named ty rows) (t.input Role.Script)
+table_work (proves schema ty id path) rows t = seek_work rows (number_named ty rows) id path
+table_work (migrates schema ty id) rows t = move_work rows (number_named ty rows) id ty (source_in (t.input Role.Schema))
 
 -- after the schema's input comes its compilation
 abbrev pub compiled_work : Job → Option Verdict → Taking → Work
@@ -171,34 +189,15 @@ pub record IsTableOpen (t : Taking) : Type 0 where
 -- new value to the value, and what a proof is to say to the proof
 abbrev pub TakesForRole : Role → Job → Taking → Type 0
 TakesForRole Role.Schema job t = Unit {0}
-TakesForRole Role.Next (checks schema) t = ⊥
 TakesForRole Role.Next (compares schema next ty) t = IsTableOpen t
-TakesForRole Role.Next (runs schema ty start script) t = ⊥
-TakesForRole Role.Next (creates schema ty value) t = ⊥
-TakesForRole Role.Next (shows schema ty id) t = ⊥
-TakesForRole Role.Next (verifies schema ty id path proof) t = ⊥
-TakesForRole Role.Next (keeps schema ty script) t = ⊥
-TakesForRole Role.Script (checks schema) t = ⊥
-TakesForRole Role.Script (compares schema next ty) t = ⊥
+TakesForRole Role.Next job t = ⊥
 TakesForRole Role.Script (runs schema ty start script) t = IsTypeOpen ty t
-TakesForRole Role.Script (creates schema ty value) t = ⊥
-TakesForRole Role.Script (shows schema ty id) t = ⊥
-TakesForRole Role.Script (verifies schema ty id path proof) t = ⊥
 TakesForRole Role.Script (keeps schema ty script) t = IsTypeOpen ty t
-TakesForRole Role.Value (checks schema) t = ⊥
-TakesForRole Role.Value (compares schema next ty) t = ⊥
-TakesForRole Role.Value (runs schema ty start script) t = ⊥
+TakesForRole Role.Script job t = ⊥
 TakesForRole Role.Value (creates schema ty value) t = IsTypeOpen ty t
-TakesForRole Role.Value (shows schema ty id) t = ⊥
-TakesForRole Role.Value (verifies schema ty id path proof) t = ⊥
-TakesForRole Role.Value (keeps schema ty script) t = ⊥
-TakesForRole Role.Proof (checks schema) t = ⊥
-TakesForRole Role.Proof (compares schema next ty) t = ⊥
-TakesForRole Role.Proof (runs schema ty start script) t = ⊥
-TakesForRole Role.Proof (creates schema ty value) t = ⊥
-TakesForRole Role.Proof (shows schema ty id) t = ⊥
+TakesForRole Role.Value job t = ⊥
 TakesForRole Role.Proof (verifies schema ty id path proof) t = IsTypeOpen ty t
-TakesForRole Role.Proof (keeps schema ty script) t = ⊥
+TakesForRole Role.Proof job t = ⊥
 
 abbrev pub Reaches : Role → Option Job → Taking → Type 0
 Reaches role None t = ⊥

@@ -1,12 +1,14 @@
 //! What comes before the work: the words, the inputs, and the schema.
-ghost use Rattle.std.specs.Prelude.{◌≡◌, ◌<◌, IfSome, Some, length, option_map};
+ghost use Rattle.std.specs.Prelude.{◌≡◌, ◌<◌, IfSome, IsUtf8, Some, length, option_map};
+ghost use Rattle.ild_compile.specs.Compile.{table, Compiles};
 ghost use Rattle.ild_schema.specs.Names.{number_named};
-ghost use Rattle.ild_run.specs.Words.{job_of, name_of, heads_job, pair_job, typed_job, run_job, verify_job, compares, creates, keeps, runs, shows, verifies};
-ghost use Rattle.ild_run.specs.Opening.{job_seen, AsksFor, AsksPath, AsksRoot, AsksStart, CompileAnswer, TakesInput, TakesInputs, OpensBehind, TypesAnswer};
+ghost use Rattle.ild_data_root.specs.Root.{root_of_text};
+ghost use Rattle.ild_run.specs.Words.{job_of, name_of, heads_job, pair_job, typed_job, root_job, run_job, prove_job, verify_job, compares, creates, keeps, migrates, proves, runs, shows, verifies};
+ghost use Rattle.ild_run.specs.Opening.{job_seen, AsksFor, AsksPath, AsksRoot, AsksStart, CompileAnswer, TakesInput, TakesInputs, OpensBehind, OpensFrom, TypesAnswer};
 
 use crate::fault::{Fault, Role, Trouble};
 use ild_compile::{CompileErr, compile};
-use ild_data::{BlockId, Octets, Path};
+use ild_data::{BlockId, Octets, Path, Txt};
 use ild_data_root::root_of_text;
 use ild_edges::{EdgeErr, Inputs, Taken};
 use ild_run_open::Start;
@@ -15,8 +17,9 @@ use ild_script_path::path_of_text;
 use std::alloc::Global;
 
 /// What the words ask for, with the names of its inputs: the schema's; for a run its type, where it starts and its script; for a new
-/// value its type and its input, and to show one its type and its root. To compare types: the two schemas', and the name of the type. For what a
-/// proof says: the type, the root, the path, and the input of the proof. Over named heads: the type of their values, and the script.
+/// value its type and its input, and to show one its type and its root. To compare types: the two schemas', and the name of the type. For what
+/// a proof says: the type, the root, the path, and the input of the proof; to make one, the type, the root and the path. Over named heads: the
+/// type of their values, and the script.
 #[derive(Drop)]
 pub enum Job<'w> {
     Check(&'w str),
@@ -26,6 +29,8 @@ pub enum Job<'w> {
     Show(&'w str, &'w str, BlockId),
     Verify(&'w str, &'w str, BlockId, Path, &'w str),
     Heads(&'w str, &'w str, &'w str),
+    Prove(&'w str, &'w str, BlockId, Path),
+    Migrate(&'w str, &'w str, BlockId),
 }
 
 impl Job<'_> {
@@ -40,14 +45,16 @@ impl Job<'_> {
             Job::New(schema, _, _) => schema,
             Job::Verify(schema, _, _, _, _) => schema,
             Job::Heads(schema, _, _) => schema,
+            Job::Prove(schema, _, _, _) => schema,
+            Job::Migrate(schema, _, _) => schema,
             Job::Show(schema, _, _) => schema,
         }
     }
 }
 
 /// The id of the block whose CID has a text, if the text is that of one.
-fn asked_root(alloc: Global, text: &str) -> Result<Option<BlockId>, Fault>
-    ensures { AsksRoot text.now result }
+pub(crate) fn asked_root(alloc: Global, text: &str) -> Result<Option<BlockId>, Fault>
+    ensures { AsksRoot (root_of_text text.now) result }
 {
     match root_of_text(alloc, text) {
         Ok(found) => Ok(found),
@@ -79,28 +86,105 @@ fn start_of_text(alloc: Global, text: &str) -> Result<Option<Start>, Fault>
     }
 }
 
-/// What five words ask for: that a script is run.
+/// What five words ask for: that what stands at a path is proved.
+fn prove_job<'w>(
+    alloc: Global,
+    verb: &str,
+    schema: &'w str,
+    ty: &'w str,
+    root: &str,
+    path: &str,
+) -> Result<Option<Job<'w>>, Fault>
+    ensures { AsksFor (prove_job verb.now schema.now ty.now root.now path.now) result }
+{
+    if verb != "prove" {
+        return Ok(None);
+    }
+    let id = match asked_root(alloc, root) {
+        Ok(Some(id)) => id,
+        Ok(None) => return Ok(None),
+        Err(fault) => return Err(fault),
+    };
+    match asked_path(alloc, path) {
+        Ok(Some(path)) => Ok(Some(Job::Prove(schema, ty, id, path))),
+        Ok(None) => Ok(None),
+        Err(fault) => Err(fault),
+    }
+}
+
+/// What five words ask for: that a script is run, or this.
 fn run_job<'w>(
     alloc: Global,
     verb: &str,
     schema: &'w str,
     ty: &'w str,
     start: &str,
-    script: &'w str,
+    last: &'w str,
 ) -> Result<Option<Job<'w>>, Fault>
-    ensures { AsksFor (run_job verb.now schema.now ty.now start.now script.now) result }
+    ensures { AsksFor (run_job verb.now schema.now ty.now start.now last.now) result }
 {
     if verb != "run" {
-        return Ok(None);
+        return prove_job(alloc, verb, schema, ty, start, last);
     }
     match start_of_text(alloc, start) {
-        Ok(Some(start)) => Ok(Some(Job::Run(schema, ty, start, script))),
+        Ok(Some(start)) => Ok(Some(Job::Run(schema, ty, start, last))),
         Ok(None) => Ok(None),
         Err(fault) => Err(fault),
     }
 }
 
-/// What four words ask for: a new value, or one that is shown.
+/// What four words ask for: a value that is shown.
+fn show_job<'w>(
+    alloc: Global,
+    schema: &'w str,
+    ty: &'w str,
+    root: &str,
+) -> Result<Option<Job<'w>>, Fault>
+    ensures { AsksFor (option_map (shows schema.now ty.now) (root_of_text root.now)) result }
+{
+    match asked_root(alloc, root) {
+        Ok(Some(root)) => Ok(Some(Job::Show(schema, ty, root))),
+        Ok(None) => Ok(None),
+        Err(fault) => Err(fault),
+    }
+}
+
+/// What four words ask for: a value that is given a root that names its schema.
+fn migrate_job<'w>(
+    alloc: Global,
+    schema: &'w str,
+    ty: &'w str,
+    root: &str,
+) -> Result<Option<Job<'w>>, Fault>
+    ensures { AsksFor (option_map (migrates schema.now ty.now) (root_of_text root.now)) result }
+{
+    match asked_root(alloc, root) {
+        Ok(Some(root)) => Ok(Some(Job::Migrate(schema, ty, root))),
+        Ok(None) => Ok(None),
+        Err(fault) => Err(fault),
+    }
+}
+
+/// What four words ask for: a value that is shown, or one that is given a root that names its schema.
+fn root_job<'w>(
+    alloc: Global,
+    verb: &str,
+    schema: &'w str,
+    ty: &'w str,
+    root: &str,
+) -> Result<Option<Job<'w>>, Fault>
+    ensures { AsksFor (root_job verb.now schema.now ty.now root.now) result }
+{
+    if verb == "show" {
+        return show_job(alloc, schema, ty, root);
+    }
+    if verb != "migrate" {
+        return Ok(None);
+    }
+    migrate_job(alloc, schema, ty, root)
+}
+
+/// What four words ask for: a new value, or one of these.
 fn typed_job<'w>(
     alloc: Global,
     verb: &str,
@@ -113,14 +197,7 @@ fn typed_job<'w>(
     if verb == "new" {
         return Ok(Some(Job::New(schema, ty, last)));
     }
-    if verb != "show" {
-        return Ok(None);
-    }
-    match asked_root(alloc, last) {
-        Ok(Some(root)) => Ok(Some(Job::Show(schema, ty, root))),
-        Ok(None) => Ok(None),
-        Err(fault) => Err(fault),
-    }
+    root_job(alloc, verb, schema, ty, last)
 }
 
 /// What four words ask for: that types of two schemas are compared, or what a new value or one that is shown does.
@@ -197,14 +274,14 @@ pub fn job_of(alloc: Global, words: &[String]) -> Result<Option<Job<'_>>, Fault>
                 last.as_str(),
             )
         }
-        [verb, schema, ty, start, script] => {
+        [verb, schema, ty, start, last] => {
             run_job(
                 alloc,
                 verb.as_str(),
                 schema.as_str(),
                 ty.as_str(),
                 start.as_str(),
-                script.as_str(),
+                last.as_str(),
             )
         }
         [verb, schema, ty, root, path, proof] => {
@@ -248,7 +325,8 @@ fn table_of(alloc: Global, bytes: &[u8]) -> Result<Accepted, Fault>
 
 /// What is to be done, once the inputs are taken: the names that a schema declares are listed, a script is answered on a value of a type,
 /// or such a value is created or shown; or two types of two schemas are compared; or it is told what a proof says of a path in a value of a type;
-/// or a script is answered over named heads, under which values of a type stand.
+/// or a script is answered over named heads, under which values of a type stand; or what stands at a path in a value is proved; or a value is
+/// given a root that names its type so, and its schema by this text.
 #[derive(Drop)]
 pub enum Task<'j> {
     List(Accepted),
@@ -258,6 +336,8 @@ pub enum Task<'j> {
     Show(Accepted, TypeNo, BlockId),
     Verify(Accepted, TypeNo, BlockId, &'j Path, Octets),
     Serve(Accepted, TypeNo, Octets),
+    Prove(Accepted, TypeNo, BlockId, &'j Path),
+    Migrate(Accepted, TypeNo, BlockId, &'j str, Txt),
 }
 
 /// The type that has a name, which is in the table.
@@ -348,6 +428,47 @@ fn plan_root<'j, I: Inputs>(
     }
 }
 
+/// That what stands at a path is to be proved, if the type is there in whose value it stands.
+fn plan_path<'j, I: Inputs>(
+    inputs: &mut I,
+    schema: Accepted,
+    ty: &str,
+    root: BlockId,
+    path: &'j Path,
+) -> Result<Task<'j>, Fault>
+    ensures { OpensBehind (I.supply inputs.old) schema (λ name. proves name ty.now root.0 path.now) result (I.supply inputs.new) }
+{
+    match type_named(&schema, ty) {
+        Some(number) => Ok(Task::Prove(schema, number, root, path)),
+        None => Err(Fault::Words),
+    }
+}
+
+/// The text of a schema that was compiled, without a copy.
+fn text_of(source: Octets) -> Txt
+    requires { IsUtf8 source }
+    ensures { result ≡ source }
+{
+    Txt::from_string(unsafe { String::from_utf8_unchecked(source.into_vec()) })
+}
+
+/// That a value is to be given a root that names its schema, whose bytes these are, if its type is there.
+fn plan_move<'j, I: Inputs>(
+    inputs: &mut I,
+    schema: Accepted,
+    ty: &'j str,
+    root: BlockId,
+    source: Octets,
+) -> Result<Task<'j>, Fault>
+    requires compiled { Compiles source (table schema) }
+    ensures { OpensFrom source (I.supply inputs.old) schema (λ name. migrates name ty.now root.0) result (I.supply inputs.new) }
+{
+    match type_named(&schema, ty) {
+        Some(number) => Ok(Task::Migrate(schema, number, root, ty, text_of(source))),
+        None => Err(Fault::Words),
+    }
+}
+
 /// Takes the input of a proof, if the type is there in whose value it is to say what stands at a path.
 fn plan_proof<'j, I: Inputs>(
     inputs: &mut I,
@@ -403,6 +524,8 @@ pub fn plan<'j, I: Inputs>(
         Job::New(_, ty, value) => plan_value(inputs, schema, ty, value),
         Job::Verify(_, ty, root, path, proof) => plan_proof(inputs, schema, ty, *root, path, proof),
         Job::Heads(_, ty, script) => plan_heads(inputs, schema, ty, script),
+        Job::Prove(_, ty, root, path) => plan_path(inputs, schema, ty, *root, path),
+        Job::Migrate(_, ty, root) => plan_move(inputs, schema, ty, *root, bytes),
         Job::Show(_, ty, root) => plan_root(inputs, schema, ty, *root),
     }
 }

@@ -11,29 +11,34 @@ ghost use Rattle.ild_run.specs.inside.Matched.{MatchedAs};
 ghost use Rattle.ild_run.specs.inside.Carried.{CarriedAs};
 ghost use Rattle.ild_run.specs.inside.Made.{MadeAs, made_fault};
 ghost use Rattle.ild_run.specs.inside.Answered.{AnsweredAs, start_fault};
-ghost use Rattle.ild_run.specs.Shown.{Replied, ShownAs};
+ghost use Rattle.ild_run.specs.Shown.{Replied};
 ghost use Rattle.ild_run.specs.Ended.{Ended, call_of};
 ghost use Rattle.ild_run.specs.Complete.{IsComplete};
-ghost use Rattle.ild_run.specs.Generator.{EndedBy, IsCompleteBy};
+ghost use Rattle.ild_run.specs.Asked.{EndedBy};
+ghost use Rattle.ild_run.specs.Generator.{IsCompleteBy};
+ghost use Rattle.ild_run.specs.Named.{IsRevealedBy, root_shown};
 ghost use Rattle.ild_run_generate.specs.Words.{generation_of};
 
 use crate::fault::{Fault, write_fault};
 use crate::generator::run_generator;
 use crate::listed::names_json;
+use crate::migrating::move_root;
 use crate::open::{Job, Task, job_of, plan};
+use crate::proving::seek;
+use crate::revealing::{reveal, root_shown};
 use crate::serving::serve;
+use crate::showing::present;
 use crate::status::Status;
 use crate::weighing::weigh;
-use ild_data::{BlockId, Sha256Keys, Txt};
+use ild_data::{Sha256Keys, Txt};
 use ild_edges::{Inputs, Sink, Store};
 use ild_run_compare::{CompareFault, compare};
 use ild_run_create::{CreateFault, Refusal, create};
 use ild_run_generate::generation_of;
 use ild_run_open::{Start, StartFault};
 use ild_run_script::{ScriptFault, run_script};
-use ild_run_show::{ShowFault, show};
 use ild_schema::{Accepted, TypeNo};
-use ild_script::{No, Reply};
+use ild_script::Reply;
 use ild_script_session::{Cut, write_reply};
 use std::alloc::Global;
 
@@ -126,35 +131,13 @@ fn make<K: Store, W: Sink>(
 }
 
 /// Writes the one reply of a call, and answers how it ended: with this status, if all was written.
-fn reply<W: Sink>(alloc: Global, reply: &Reply, due: Status, out: &mut W) -> Status
+pub(crate) fn reply<W: Sink>(alloc: Global, reply: &Reply, due: Status, out: &mut W) -> Status
     ensures told { Replied reply.now due (W.output out.old) result (W.output out.new) }
     ensures faults { (W.output out.old).faults ≤ (W.output out.new).faults }
 {
     match write_reply(alloc, reply, out) {
         Ok(()) => due,
         Err(cut) => cut_status(cut),
-    }
-}
-
-/// Opens the value of a type that stands under a root, writes its JSON, and answers how it ended.
-fn present<K: Store, W: Sink>(
-    alloc: Global,
-    schema: &Accepted,
-    ty: TypeNo,
-    root: &BlockId,
-    store: &mut K,
-    out: &mut W,
-) -> Status
-    requires within { ty.0 < length schema.now }
-    ensures { ShownAs schema.now ty root.now.0 (K.moment store.old) (W.output out.old) result (K.moment store.new) (W.output out.new) }
-{
-    schema.recall();
-    match show(alloc, schema, ty, root, &Sha256Keys, store) {
-        Ok(json) => reply(alloc, &Reply::Ok(json), Status::Done, out),
-        Err(ShowFault::Reserved) => reply(alloc, &Reply::No(No::Reserved), Status::Refused, out),
-        Err(ShowFault::Block { id, why }) => tell(alloc, Fault::Root(id, why), out),
-        Err(ShowFault::Store) => tell(alloc, Fault::Store, out),
-        Err(ShowFault::Memory) => tell(alloc, Fault::Memory, out),
     }
 }
 
@@ -222,6 +205,10 @@ fn carry_task<K: Store, W: Sink>(
         Task::Serve(schema, ty, script) => {
             serve(alloc, schema, *ty, script.as_slice(), store, out)
         }
+        Task::Prove(schema, ty, root, path) => seek(alloc, schema, *ty, root, path, store, out),
+        Task::Migrate(schema, ty, root, name, source) => {
+            move_root(alloc, schema, *ty, root, name, source.as_str(), store, out)
+        }
         Task::Show(schema, ty, root) => present(alloc, schema, *ty, root, store, out),
     }
 }
@@ -266,6 +253,32 @@ fn carry_out<I: Inputs, K: Store, W: Sink>(
     }
 }
 
+/// Does what the words say that don't run the generator, and answers how it ended.
+fn carry_words<I: Inputs, K: Store, W: Sink>(
+    alloc: Global,
+    words: &[String],
+    inputs: &mut I,
+    store: &mut K,
+    out: &mut W,
+) -> Status
+    ensures ended { EndedBy None (root_shown words.now)
+        (call_of (job_of words.now) (I.supply inputs.old) (K.moment store.old) (W.output out.old) (I.supply inputs.new) (K.moment store.new) (W.output out.new))
+        result }
+    ensures complete { IsComplete (call_of (job_of words.now) (I.supply inputs.old) (K.moment store.old) (W.output out.old) (I.supply inputs.new) (K.moment store.new) (W.output out.new)) result }
+    ensures revealed { IsRevealedBy (root_shown words.now)
+        (call_of (job_of words.now) (I.supply inputs.old) (K.moment store.old) (W.output out.old) (I.supply inputs.new) (K.moment store.new) (W.output out.new))
+        result }
+    ensures inputs { After (I.supply inputs.old) (I.supply inputs.new) }
+    ensures later { Later (K.moment store.old) (K.moment store.new) }
+    ensures sink { (W.output out.old).faults ≤ (W.output out.new).faults }
+{
+    match root_shown(alloc, words) {
+        Ok(Some(root)) => reveal(alloc, &root, store, out),
+        Ok(None) => carry_out(alloc, words, inputs, store, out),
+        Err(_) => tell(alloc, Fault::Memory, out),
+    }
+}
+
 /// Does what the words say, and answers how it ended.
 ///
 /// Under `check` a schema is compiled, and the names that it declares are listed, or its first fault is told. Under `run` each
@@ -273,11 +286,14 @@ fn carry_out<I: Inputs, K: Store, W: Sink>(
 /// or from the empty map or list, whose block is put first. A root that is printed is the id of the block built from scratch from the
 /// value at that line. A line that is refused changes nothing, and its cause is there. Under `new` the value of a type that an input means as DAG-JSON is built and put, and its root is printed;
 /// or the first cause is told for which no store holds such a value. Under `show` the value of a type that stands under a root is read
-/// and written as DAG-JSON; or a block is told that isn't held, or isn't what has to stand there, where no such value does. Under `compat`
+/// and written as DAG-JSON; or a block is told that isn't held, or isn't what has to stand there, where no such value does. Without a schema and
+/// a type `show` takes both from the root, which names the type and links to the schema's text; and `migrate` gives the value of a type that
+/// stands under a root another root, which names its schema so, puts the schema's text, and prints the new root. Under `compat`
 /// the types with one name of two schemas are compared: `ok true` tells that all that stands as a value of the first stands as one of the
 /// other, in the same blocks and with the same shown form; or a pair of their types is told, and a rule that fails for it. Under `verify`
 /// no store is asked: what a list of blocks says of a path in the value of a type under a root is told, a part or that there is none; or the list
-/// is refused, where it says nothing. Under `heads` each line of the script is an event over named heads and sessions, and its outcome is written;
+/// is refused, where it says nothing. Under `prove` such a list is made of what stands at a path in the value that stands under a root, and written
+/// as DAG-JSON; or a block is told as under `show`, where no such value does. Under `heads` each line of the script is an event over named heads and sessions, and its outcome is written;
 /// a head's root is reached from its first one by the commits of its log, each line of which is answered as the same command is on the plain value;
 /// and a line for each head is written at the end. Under `gen`
 /// a map is generated, and its counts, the number of its entries and its root are written, which are those of a plain map.
@@ -289,7 +305,7 @@ pub fn run<I: Inputs, K: Store, W: Sink>(
     out: &mut W,
 ) -> Status
     // The status, the text that was written, the cause of both, and what came of the store.
-    ensures ended { EndedBy (generation_of words.now)
+    ensures ended { EndedBy (generation_of words.now) (root_shown words.now)
         (call_of (job_of words.now) (I.supply inputs.old) (K.moment store.old) (W.output out.old) (I.supply inputs.new) (K.moment store.new) (W.output out.new))
         result }
 
@@ -301,6 +317,11 @@ pub fn run<I: Inputs, K: Store, W: Sink>(
         (call_of (job_of words.now) (I.supply inputs.old) (K.moment store.old) (W.output out.old) (I.supply inputs.new) (K.moment store.new) (W.output out.new))
         result }
 
+    // And of a value that is shown by its root alone.
+    ensures revealed { IsRevealedBy (root_shown words.now)
+        (call_of (job_of words.now) (I.supply inputs.old) (K.moment store.old) (W.output out.old) (I.supply inputs.new) (K.moment store.new) (W.output out.new))
+        result }
+
     // What was held is held, what was given is given, and no count falls.
     ensures inputs { After (I.supply inputs.old) (I.supply inputs.new) }
     ensures later { Later (K.moment store.old) (K.moment store.new) }
@@ -308,6 +329,6 @@ pub fn run<I: Inputs, K: Store, W: Sink>(
 {
     match generation_of(words) {
         Some((count, seed)) => run_generator(alloc, count, seed, store, out),
-        None => carry_out(alloc, words, inputs, store, out),
+        None => carry_words(alloc, words, inputs, store, out),
     }
 }

@@ -1,15 +1,15 @@
 -- The value that stands under a bare root is the one that is given another.
-use Rattle.std.proofs.Common.{◌≡◌, ℕ, ◌+◌, ◌≤◌, List, Option, Some, None, sym, ◌∙◌, subst, arith, inl, inr}
+use Rattle.std.proofs.Common.{◌≡◌, ℕ, ◌+◌, ◌≤◌, List, [], ◌∷◌, Option, Some, None, sym, ◌∙◌, subst, arith, inl, inr}
 use Rattle.std.proofs.lemmas.Option.{same_Some}
-use Rattle.std.specs.Prelude.{Result, Ok, Err}
+use Rattle.std.specs.Prelude.{Result, Ok, Err, IfErr}
 use Rattle.ild_data.specs.Limits.{deepest}
 use Rattle.ild_data.specs.Spell.{id_of, spell}
 use Rattle.ild_data.specs.declared.id.BlockId.{BlockId}
 use Rattle.ild_edges.proofs.Later.{Later-trans}
 use Rattle.ild_edges.proofs.Reading.{from_told}
-use Rattle.ild_edges.specs.Gained.{CameFrom, FromBlocks, OnlyReads}
+use Rattle.ild_edges.specs.Gained.{AreHeld, CameFrom, FromBlocks, OnlyReads}
 use Rattle.ild_edges.specs.Store.{Moment, block_at}
-use Rattle.ild_edges.specs.Told.{BothTold}
+use Rattle.ild_edges.specs.Told.{BothTold, IfTold}
 use Rattle.ild_named_root.specs.Names.{AreDocData, Names, NamesData, new_blocks}
 use Rattle.ild_named_root.specs.declared.fault.NameFault.{NameFault}
 use Rattle.ild_named_root.specs.declared.fault.NameFault.TheVariants as N
@@ -30,7 +30,12 @@ use Rattle.ild_view_doc.specs.Docs.{block_in, table_in, type_in}
 use Rattle.ild_view_doc.specs.declared.doc.Doc.{Doc}
 use Rattle.ild_run_named.specs.Migrates.{MigrateAnswer, Migrates, OfValue, WasOpened}
 use Rattle.ild_run_named.specs.declared.migrating.MigrateFault.{MigrateFault}
-use Rattle.ild_run_named.specs.inside.Moves.{migrate_fault, name_fault}
+use Rattle.ild_run_named.specs.inside.Moves.{TellsBytes, migrate_fault, name_fault}
+
+-- a block that is held under its id
+held_alone : (o : Option (List (List ℕ))) (kept id : List ℕ) → id_of kept ≡ id → IfTold o (λ held. block_at held id ≡ Some kept) → IfTold o (AreHeld (kept ∷ []))
+held_alone None kept id is held = tt
+held_alone (Some blocks) kept id is held = (subst (λ (i : List ℕ). block_at blocks i ≡ Some kept) (sym is) held, tt)
 
 none_came : (bs : List (List ℕ)) (a c : Option (List (List ℕ))) → c ≡ a → BothTold a c (CameFrom bs)
 none_came bs a c same = subst (λ (o : Option (List (List ℕ))). BothTold a o (CameFrom bs)) (sym same) (by a)
@@ -50,7 +55,7 @@ module _ (rows : List Row) (schema : IsSchema rows) (h : List ℕ → List ℕ) 
   few_puts only = let same = only.puts in omega (arith, same)
 
   unopened_answer : {A : Type 0} (Done : A → Type 0) (e : OpenFault) → Opens Done h rows ty root m (Err e) k → MigrateAnswer h rows ty root name source m (Err (migrate_fault e)) k
-  unopened_answer Done (O.Block id why) x = inl (record { none = x.answer.0; refused = x.answer.1 })
+  unopened_answer Done (O.Block id why) x = inl (record { none = x.answer.0; refused = x.answer.1; reads = x.only })
   unopened_answer Done O.Store x = x.answer
   unopened_answer Done O.Memory x = tt
 
@@ -94,39 +99,54 @@ module _ (rows : List Row) (schema : IsSchema rows) (h : List ℕ → List ℕ) 
     was_opened : (r : Result BlockId NameFault) → Names h rows ty b name source k r n → WasOpened h rows ty root name source m r n
     was_opened r x = record { moment = k; block = b; root_is = root_is; reads = reads; opened = opened; names = x }
 
-    moved_answer : (r : Result BlockId NameFault) → Names h rows ty b name source k r n → MigrateAnswer h rows ty root name source m (answer_of r) n
-    moved_answer (Ok id) x = was_opened (Ok id) x
-    moved_answer (Err N.Depth) x = was_opened (Err N.Depth) x
-    moved_answer (Err N.Size) x = was_opened (Err N.Size) x
-    moved_answer (Err (N.Block id why)) x = inr (was_opened (Err (N.Block id why)) x)
-    moved_answer (Err N.Store) x = rose_later m.faults k.faults n.faults reads.later.faults x.failed
-    moved_answer (Err (N.Clash id kept new)) x = (kept, new, was_opened (Err (N.Clash id kept new)) x)
-    moved_answer (Err N.Memory) x = tt
+    moved_answer : (r : Result BlockId NameFault) → IfErr r TellsBytes → Names h rows ty b name source k r n → MigrateAnswer h rows ty root name source m (answer_of r) n
+    moved_answer (Ok id) bytes x = was_opened (Ok id) x
+    moved_answer (Err N.Depth) bytes x = was_opened (Err N.Depth) x
+    moved_answer (Err N.Size) bytes x = was_opened (Err N.Size) x
+    moved_answer (Err (N.Block id why)) bytes x = inr (was_opened (Err (N.Block id why)) x)
+    moved_answer (Err N.Store) bytes x = rose_later m.faults k.faults n.faults reads.later.faults x.failed
+    moved_answer (Err (N.Clash id kept new)) bytes x = (kept, new, bytes.0, bytes.1, was_opened (Err (N.Clash id kept new)) x)
+    moved_answer (Err N.Memory) bytes x = tt
 
-    moved_value : (r : Result BlockId NameFault) (held : List (List ℕ)) (v : Value) (told : m.blocks ≡ Some held) (st : Stands bare (block_at held) h rows ty root v) → NamesData h rows ty b name source st.tree k r n
-        → OfValue h rows ty root name source m held v st (answer_of r) n
-    moved_value (Ok id) held v told st x = x.answer.stands held v (reads.blocks ∙ told) (in_block held v told st)
-    moved_value (Err N.Depth) held v told st x = x.answer.none held v (reads.blocks ∙ told) (in_block held v told st)
-    moved_value (Err N.Size) held v told st x = (x.answer.room held v (reads.blocks ∙ told) (in_block held v told st), x.answer.long)
-    moved_value (Err (N.Block id why)) held v told st x = x.answer.none held v (reads.blocks ∙ told) (in_block held v told st)
-    moved_value (Err N.Store) held v told st x = tt
-    moved_value (Err (N.Clash id kept new)) held v told st x =
-        (x.answer.fit.room held v (reads.blocks ∙ told) (in_block held v told st), (kept, new, x.answer.among, x.answer.clash))
-    moved_value (Err N.Memory) held v told st x = tt
+    moved_value : (r : Result BlockId NameFault) (held : List (List ℕ)) (v : Value) (told : m.blocks ≡ Some held) (st : Stands bare (block_at held) h rows ty root v) → IfErr r TellsBytes
+        → NamesData h rows ty b name source st.tree k r n → OfValue h rows ty root name source m held v st (answer_of r) n
+    moved_value (Ok id) held v told st bytes x =
+        record {
+          movable = record { room = x.answer.fit.room held v (reads.blocks ∙ told) (in_block held v told st); short = x.answer.fit.short };
+          root_is = x.answer.root;
+          stands = x.answer.stands held v (reads.blocks ∙ told) (in_block held v told st);
+        }
+    moved_value (Err N.Depth) held v told st bytes x = x.answer.none held v (reads.blocks ∙ told) (in_block held v told st)
+    moved_value (Err N.Size) held v told st bytes x = (x.answer.room held v (reads.blocks ∙ told) (in_block held v told st), x.answer.long)
+    moved_value (Err (N.Block id why)) held v told st bytes x = x.answer.none held v (reads.blocks ∙ told) (in_block held v told st)
+    moved_value (Err N.Store) held v told st bytes x = tt
+    moved_value (Err (N.Clash id kept new)) held v told st bytes x =
+        let clash = x.answer.clash in (
+          record { room = x.answer.fit.room held v (reads.blocks ∙ told) (in_block held v told st); short = x.answer.fit.short },
+          record {
+            kept = kept;
+            new = new;
+            among = x.answer.among;
+            held = held_alone n.blocks kept id.0 clash.0 clash.3;
+            collide = record { kept_bytes = bytes.0; new_bytes = bytes.1; differ = clash.2; one_id = clash.0 ∙ sym clash.1 };
+            id_is = sym clash.1;
+          },
+        )
+    moved_value (Err N.Memory) held v told st bytes x = tt
 
-    pub moved : (r : Result BlockId NameFault) → Names h rows ty b name source k r n → Migrates h rows ty root name source m (answer_of r) n
-    moved r x = record {
-      answer = moved_answer r x;
+    pub moved : (r : Result BlockId NameFault) → IfErr r TellsBytes → Names h rows ty b name source k r n → Migrates h rows ty root name source m (answer_of r) n
+    moved r bytes x = record {
+      answer = moved_answer r bytes x;
       value = λ held v told st.
           let y = x.each st.tree (doc_data held v told st) in
-          record { answer = moved_value r held v told st y; adds = subst (λ (o : Option (List (List ℕ))). BothTold o n.blocks (CameFrom (new_blocks name source st.tree))) reads.blocks y.adds };
+          record { answer = moved_value r held v told st bytes y; adds = subst (λ (o : Option (List (List ℕ))). BothTold o n.blocks (CameFrom (new_blocks name source st.tree))) reads.blocks y.adds };
       later = Later-trans m k n reads.later x.later;
       puts = let same = reads.puts in let most = x.puts in omega (arith, same, most);
     }
 
 -- from the document that was opened
 pub moved_doc : (rows : List Row) → IsSchema rows → (h : List ℕ → List ℕ) (ty : TypeNo) (root name source : List ℕ) (m k n : Moment) (d : Doc) (r : Result BlockId NameFault) → Opens (HasOpened h rows ty root k) h rows ty root m (Ok d) k
-    → Names h (table_in d) (type_in d) (block_in d) name source k r n → Migrates h rows ty root name source m (answer_of r) n
-moved_doc rows schema h ty root name source m k n d r x names =
-    moved rows schema h ty root name source m k (block_in d) x.answer.root x.only x.answer.value n r
+    → IfErr r TellsBytes → Names h (table_in d) (type_in d) (block_in d) name source k r n → Migrates h rows ty root name source m (answer_of r) n
+moved_doc rows schema h ty root name source m k n d r x bytes names =
+    moved rows schema h ty root name source m k (block_in d) x.answer.root x.only x.answer.value n r bytes
     (subst (λ (table : List Row). Names h table ty (block_in d) name source k r n) x.answer.table (subst (λ (t : TypeNo). Names h (table_in d) t (block_in d) name source k r n) x.answer.type names))

@@ -35,7 +35,8 @@ use Rattle.ild_typed.specs.Stands.{blocks_of}
 use Rattle.ild_run_named.proofs.Told.{accepted_too, not_flawed, number_is, one_described, one_table, tells}
 use Rattle.ild_run_named.specs.Describes.{DescribesType, StandsDescribed}
 use Rattle.ild_run_named.specs.Shows.{GetsItsBlocks, HasShown, NoneStands, ShowAnswer, Shows}
-use Rattle.ild_run_named.specs.inside.Steps.{IsShown, TypesAs, ValueShows, open_fault}
+use Rattle.ild_run_named.specs.Types.{TypesAs}
+use Rattle.ild_run_named.specs.inside.Steps.{IsShown, ValueShows, open_fault}
 
 module _ (h : List ℕ → List ℕ) (id : List ℕ) (m k : Moment) where
   -- ---- no root is described
@@ -60,12 +61,12 @@ module _ (h : List ℕ → List ℕ) (id : List ℕ) (m k : Moment) where
     told_here : (held : List (List ℕ)) → m.blocks ≡ Some held → IsDescribed held id d.type_name d.source
     told_here held told = from_told k (λ held. IsDescribed held id d.type_name d.source) x.answer.described held (x.only.blocks ∙ told)
 
-    type_stops : (e : ShowFault) → TypesAs id d (Err e) → ShowAnswer h id m (Err e) k
-    type_stops (F.Block at why) (inl y) = record {
+    type_stops : (e : OpenFault) → TypesAs id d (Err e) → ShowAnswer h id m (Err (open_fault e)) k
+    type_stops (O.Block at why) (inl y) = record {
       none = λ held rows ty v told st. not_flawed d.source rows y.fault (accepted_too h id held rows ty v st d.type_name d.source (told_here held told)) y.flaw;
       refused = inr (inl (record { name = d.type_name; source = d.source; tells = x.answer.described; schema = y.schema ∙ x.answer.link; fault = y.fault; flaw = y.flaw; told = y.told }));
     }
-    type_stops (F.Block at why) (inr y) = record {
+    type_stops (O.Block at why) (inr y) = record {
       none = λ held rows ty v told st.
           let is = told_here held told in
           let same : rows ≡ y.rows = one_table d.source rows y.rows (accepted_too h id held rows ty v st d.type_name d.source is) y.accepted in
@@ -74,11 +75,10 @@ module _ (h : List ℕ → List ℕ) (id : List ℕ) (m k : Moment) where
           none-some ty.0 (sym y.none ∙ found);
       refused = inr (inr (inl (record { name = d.type_name; source = d.source; tells = x.answer.described; root = y.root; rows = y.rows; accepted = y.accepted; none = y.none; told = y.told })));
     }
-    type_stops F.Memory y = tt
-    type_stops F.Store y = absurd y
-    type_stops F.Reserved y = absurd y
+    type_stops O.Memory y = tt
+    type_stops O.Store y = absurd y
 
-    pub not_typed : (e : ShowFault) → TypesAs id d (Err e) → Shows h id m (Err e) k
+    pub not_typed : (e : OpenFault) → TypesAs id d (Err e) → Shows h id m (Err (open_fault e)) k
     not_typed e y = record { answer = type_stops e y; reads = x.only; gets = few k x.gets }
 
     -- ---- the value

@@ -7,3 +7,4 @@ mod typing;
 
 pub use migrating::{MigrateFault, migrate};
 pub use showing::show_named;
+pub use typing::type_of;

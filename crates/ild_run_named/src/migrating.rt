@@ -1,7 +1,8 @@
 //! A value under a bare root is given one that names its schema.
 ghost use Rattle.std.specs.Prelude.{◌≡◌, ◌<◌, length};
+ghost use Rattle.ild_data.specs.Bytes.{AreBytes};
 ghost use Rattle.ild_run_named.specs.Migrates.{Migrates};
-ghost use Rattle.ild_run_named.specs.inside.Moves.{migrate_fault, name_fault};
+ghost use Rattle.ild_run_named.specs.inside.Moves.{TellsBytes, migrate_fault, name_fault};
 
 use ild_cbor::BlockWhy;
 use ild_data::{BlockId, KeyHash};
@@ -38,18 +39,24 @@ fn migrate_fault(fault: OpenFault) -> MigrateFault
     }
 }
 
+// The items of a slice of bytes are bytes; a caller that needs the fact makes this call, which does no work.
+fn are_bytes(bytes: &[u8])
+    ensures { AreBytes bytes.now }
+{}
+
 fn name_fault(fault: NameFault) -> MigrateFault
-    ensures { result ≡ name_fault fault }
+    ensures same { result ≡ name_fault fault }
+    ensures bytes { TellsBytes fault }
 {
     match fault {
         NameFault::Depth => MigrateFault::Depth,
         NameFault::Size => MigrateFault::Size,
         NameFault::Store => MigrateFault::Store,
-        NameFault::Clash {
-            id,
-            kept: _,
-            new: _,
-        } => MigrateFault::Clash(id),
+        NameFault::Clash { id, kept, new } => {
+            are_bytes(kept.as_slice());
+            are_bytes(new.as_slice());
+            MigrateFault::Clash(id)
+        }
         NameFault::Block { id, why } => MigrateFault::Block { id, why },
         NameFault::Memory => MigrateFault::Memory,
     }

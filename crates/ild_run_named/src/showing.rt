@@ -87,7 +87,7 @@ pub fn show_named<K: Store, H: KeyHash>(
     };
     let (acc, ty) = match type_of(alloc, id, &described) {
         Ok(typed) => typed,
-        Err(fault) => return Err(fault),
+        Err(fault) => return Err(open_fault(fault)),
     };
     acc.recall();
     show_value(alloc, &acc, ty, id, keys, store)

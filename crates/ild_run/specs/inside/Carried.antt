@@ -9,6 +9,8 @@ use Rattle.ild_run.specs.inside.Answered.{AnsweredAs}
 use Rattle.ild_run.specs.inside.Headed.{HeadedAs}
 use Rattle.ild_run.specs.inside.Made.{MadeAs}
 use Rattle.ild_run.specs.inside.Matched.{MatchedAs}
+use Rattle.ild_run.specs.inside.Sought.{SoughtAs}
+use Rattle.ild_run.specs.inside.Moved.{MovedAs}
 use Rattle.ild_run.specs.inside.Weighed.{WeighedAs}
 use Rattle.ild_run.specs.declared.open.Task.{Task}
 use Rattle.ild_run.specs.declared.open.Task.TheVariants as P
@@ -23,3 +25,5 @@ CarriedAs (P.Create rows n b) m was status k now = MadeAs rows n b m was status 
 CarriedAs (P.Show rows n id) m was status k now = ShownAs rows n id.0 m was status k now
 CarriedAs (P.Verify rows n id path b) m was status k now = WeighedAs rows n id.0 path.now b was status now × (k ≡ m)
 CarriedAs (P.Serve rows n b) m was status k now = HeadedAs rows n b m was status k now
+CarriedAs (P.Prove rows n id path) m was status k now = SoughtAs rows n id.0 path.now m was status k now
+CarriedAs (P.Migrate rows n id name source) m was status k now = MovedAs rows n id.0 name.now source m was status k now

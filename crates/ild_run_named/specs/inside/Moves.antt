@@ -1,4 +1,5 @@
 -- The faults of a migration.
+use Rattle.ild_data.specs.Bytes.{AreBytes}
 use Rattle.ild_named_root.specs.declared.fault.NameFault.{NameFault}
 use Rattle.ild_named_root.specs.declared.fault.NameFault.TheVariants as N
 use Rattle.ild_open_parts.specs.declared.fault.OpenFault.{OpenFault}
@@ -18,3 +19,8 @@ name_fault N.Store = F.Store
 name_fault (N.Clash id kept new) = F.Clash id
 name_fault (N.Block id why) = F.Block id why
 name_fault N.Memory = F.Memory
+
+-- the two blocks of a clash are bytes
+abbrev pub TellsBytes : NameFault → Type 0
+TellsBytes (N.Clash id kept new) = AreBytes kept × AreBytes new
+TellsBytes fault = Unit {0}

@@ -64,6 +64,20 @@ returns-in-Heads g c =
     let compiled = rw c.as_slice.ensures.same at c.in_ok-schema.ensures in
     rw c.in-Heads.is (c.plan_heads.ensures m c.in-Heads.field-0.now c.in_ok-bytes.bytes taken compiled c.in_ok-bytes.ensures.after)
 
+pub returns-in-Prove : goal.returns-in-Prove
+returns-in-Prove g c =
+    let m = g.I.Inputs.supply c.args.inputs.now in
+    let taken = by_name m c.in-Prove.field-0.now c.schema.result.now c.in_ok-bytes.bytes (rw c.in-Prove.is at c.schema.ensures) c.in_ok-bytes.ensures.answer in
+    let compiled = rw c.as_slice.ensures.same at c.in_ok-schema.ensures in
+    rw c.in-Prove.is (c.plan_path.ensures m c.in-Prove.field-0.now c.in_ok-bytes.bytes taken compiled c.in_ok-bytes.ensures.after)
+
+pub returns-in-Migrate : goal.returns-in-Migrate
+returns-in-Migrate g c =
+    let m = g.I.Inputs.supply c.args.inputs.now in
+    let taken = by_name m c.in-Migrate.field-0.now c.schema.result.now c.in_ok-bytes.bytes (rw c.in-Migrate.is at c.schema.ensures) c.in_ok-bytes.ensures.answer in
+    let compiled = rw c.as_slice.ensures.same at c.in_ok-schema.ensures in
+    rw c.in-Migrate.is (c.plan_move.ensures m c.in-Migrate.field-0.now taken compiled c.in_ok-bytes.ensures.after)
+
 pub returns : goal.returns
 returns g c =
     let m = g.I.Inputs.supply c.args.inputs.now in

@@ -29,5 +29,13 @@ returns-in-Serve-clause-carried g c =
     let headed = rw c.as_slice-in-Serve.ensures.same at c.serve.ensures in
     rw c.in-Serve.is headed
 
+pub returns-in-Migrate-clause-carried : goal.returns-in-Migrate-clause-carried
+returns-in-Migrate-clause-carried g c =
+    let moved = rw c.as_str.ensures.same at c.move_root.ensures in
+    rw c.in-Migrate.is moved
+
 pub returns-in-Show-clause-carried : goal.returns-in-Show-clause-carried
 returns-in-Show-clause-carried g c = rw c.in-Show.is c.present.ensures
+
+pub returns-in-Prove-clause-carried : goal.returns-in-Prove-clause-carried
+returns-in-Prove-clause-carried g c = rw c.in-Prove.is c.seek.ensures

@@ -14,7 +14,11 @@ returns-in-Err g c =
 
 pub returns-in-Err-type_of : goal.returns-in-Err-type_of
 returns-in-Err-type_of g c =
-    not_typed g.H.KeyHash.hash_of c.args.id.now.0 (g.K.Store.moment c.args.store.now) (g.K.Store.moment c.describe.new.store) c.in-Ok.described c.in-Ok.ensures c.in-Err-type_of.fault c.in-Err-type_of.ensures.types
+    let h = g.H.KeyHash.hash_of in
+    let m = g.K.Store.moment c.args.store.now in
+    let k = g.K.Store.moment c.describe.new.store in
+    subst (λ (e : ShowFault). Shows h c.args.id.now.0 m (Err e) k) (sym c.open_fault-in-Err-type_of.ensures)
+    (not_typed h c.args.id.now.0 m k c.in-Ok.described c.in-Ok.ensures c.in-Err-type_of.fault c.in-Err-type_of.ensures.types)
 
 pub returns : goal.returns
 returns g c =

@@ -1,0 +1,12 @@
+-- How a call ends, as its words ask: they run the generator, show the value under a root that names its schema, or are of some other form
+-- or of none.
+use Rattle.std.specs.Prelude.{ℕ, List, Option, Some, None}
+use Rattle.ild_run.specs.Ended.{Call, Ended}
+use Rattle.ild_run.specs.Generator.{EndsGeneration}
+use Rattle.ild_run.specs.Named.{EndsRoot}
+use Rattle.ild_run.specs.declared.status.Status.{Status}
+
+abbrev pub EndedBy : Option (ℕ × ℕ) → Option (List ℕ) → Call → Status → Type 0
+EndedBy (Some g) root c status = EndsGeneration g.1 g.0 c status
+EndedBy None (Some id) c status = EndsRoot id c status
+EndedBy None None c status = Ended c status
