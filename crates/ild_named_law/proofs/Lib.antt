@@ -1,7 +1,7 @@
 pub mod Alike
-mod Entered
+pub mod Entered
 mod Fitting
-mod Known
+pub mod Known
 pub mod Pathing
-mod Rooting
+pub mod Rooting
 pub mod Standing

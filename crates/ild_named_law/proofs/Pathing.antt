@@ -1,10 +1,10 @@
 -- Two tables that are alike: a path leads to the same part by both, a change makes the same value, and a value is shown alike.
-use Rattle.std.proofs.Common.{◌≡◌, ℕ, ◌<◌, Bool, true, false, List, [], ◌∷◌, Option, Some, None, refl, ap, ap₂, ◌∙◌, subst, arith}
+use Rattle.std.proofs.Common.{◌≡◌, ℕ, suc, ◌<◌, Bool, true, false, List, [], ◌∷◌, Option, Some, None, refl, ap, ap₂, ◌∙◌, subst, arith}
 use Rattle.std.specs.Prelude.{option_map, option_and_then, slice_get, if◌then◌else◌}
 use Rattle.std.specs.List.{AllByRecursion}
 use Rattle.std.specs.Option.{option_map_or}
 use Rattle.std.proofs.lemmas.Option.{none-some, same_Some}
-use Rattle.ild_data.proofs.Options.{map_some}
+use Rattle.ild_data.proofs.Options.{chain_some, map_some}
 use Rattle.ild_data.specs.Data as T
 use Rattle.ild_data.specs.Data.{Data}
 use Rattle.ild_data.specs.Key.{same_text, value_at}
@@ -19,7 +19,7 @@ use Rattle.ild_schema.specs.Prelude.{anything}
 use Rattle.ild_schema.specs.Slots.{form_of, plainly}
 use Rattle.ild_schema.specs.Value as V
 use Rattle.ild_schema.specs.Value.{Value, Values, Pairs, Optionals, values_list, pairs_list, optionals_list}
-use Rattle.ild_typed.specs.At.{InSlot, seen, at, last_holder, changed_in}
+use Rattle.ild_typed.specs.At.{InSlot, seen, at, reached, or_enter, last_holder, changed_in}
 use Rattle.ild_typed.specs.Holder.{Holder, list_holder, map_holder, struct_holder, union_holder, any_holder, holder_of, value_of, of_any}
 use Rattle.ild_typed.specs.Segment.{index_of, field_at, held_as, part, set_part}
 use Rattle.ild_typed.specs.Shown.{shown, shown_values, shown_pairs, shown_fields}
@@ -30,7 +30,7 @@ use Rattle.ild_named_law.proofs.Standing.{element_low, form_same, or_same, then_
 
 -- ---- the parts of a holder are of low types
 
-abbrev IsLowSlot : ℕ → InSlot → Type 0
+abbrev pub IsLowSlot : ℕ → InSlot → Type 0
 IsLowSlot count q = q.0.ty.0 < count
 
 field_low : (count : ℕ) (name : List ℕ) (fs : List Field) (os : List (Option Value)) (q : InSlot) → AllByRecursion (λ (f : Field). f.slot.ty.0 < count) fs → field_at name fs os ≡ Some q → IsLowSlot count q
@@ -78,7 +78,7 @@ any_low count (T.map ms) s q some e = let m = map_some (λ d. (anything, of_any 
 any_low count d s q some e = absurd (none-some q e)
 
 module _ (count : ℕ) (others rows : List Row) (alike : AreAlike count others rows) where
-  forms_low : (s : Slot) → s.ty.0 < count → IsLowIn count (form_of rows s)
+  pub forms_low : (s : Slot) → s.ty.0 < count → IsLowIn count (form_of rows s)
   forms_low s low = low_form count others rows alike s low
 
   part_low : (s : Slot) (v : Value) (t : List ℕ) (q : InSlot) → s.ty.0 < count → part (holder_of rows s v) t ≡ Some q → IsLowSlot count q
@@ -91,7 +91,7 @@ module _ (count : ℕ) (others rows : List Row) (alike : AreAlike count others r
 
   -- ---- paths
 
-  holder_same : (s : Slot) (v : Value) → s.ty.0 < count → holder_of others s v ≡ holder_of rows s v
+  pub holder_same : (s : Slot) (v : Value) → s.ty.0 < count → holder_of others s v ≡ holder_of rows s v
   holder_same s (V.list vs) low = ap (λ o. list_holder o vs) (form_same count others rows alike s low)
   holder_same s (V.map ps) low = ap (λ o. map_holder o ps) (form_same count others rows alike s low)
   holder_same s (V.struct os) low = ap (λ o. struct_holder o os) (form_same count others rows alike s low)
@@ -103,6 +103,19 @@ module _ (count : ℕ) (others rows : List Row) (alike : AreAlike count others r
   at_same p (s ∷ ss) low =
       ap (λ h. option_and_then (λ q. at others q ss) (part h s)) (holder_same p.0 p.1 low)
       ∙ then_same (part (seen rows p) s) (λ q. at others q ss) (λ q. at rows q ss) (λ q e. at_same q ss (part_low p.0 p.1 s q low e))
+
+  -- what a path leads to is of a low type
+  pub at_low : (p : InSlot) (path : List (List ℕ)) (q : InSlot) → IsLowSlot count p → at rows p path ≡ Some q → IsLowSlot count q
+  at_low p [] q low e = subst (IsLowSlot count) (same_Some p q e) low
+  at_low p (s ∷ ss) q low e =
+      let r = chain_some (λ q. at rows q ss) (part (seen rows p) s) q e in
+      at_low r.0 ss q (part_low p.0 p.1 s r.0 low r.1) r.2
+
+  pub reached_same : (k : ℕ) (p : InSlot) (path : List (List ℕ)) → IsLowSlot count p → reached others k p path ≡ reached rows k p path
+  reached_same k p [] low = refl
+  reached_same k p (s ∷ ss) low =
+      ap (λ h. option_map_or (λ q. reached others (suc k) q ss) (part h s) (or_enter k p.0 p.1)) (holder_same p.0 p.1 low)
+      ∙ or_same (part (seen rows p) s) (λ q. reached others (suc k) q ss) (λ q. reached rows (suc k) q ss) (or_enter k p.0 p.1) (λ q e. reached_same (suc k) q ss (part_low p.0 p.1 s q low e))
 
   pub last_same : (p : InSlot) (s : List ℕ) (path : List (List ℕ)) → IsLowSlot count p → last_holder others p s path ≡ last_holder rows p s path
   last_same p s [] low = ap (λ h. Some (h, s)) (holder_same p.0 p.1 low)
