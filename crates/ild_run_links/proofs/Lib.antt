@@ -1,0 +1,12 @@
+pub mod Typing
+pub mod Inner
+pub mod Ending
+pub mod Standing
+pub mod Stopped
+pub mod Setting
+pub mod Alike
+pub mod Counting
+pub mod Fitting
+pub mod Found
+pub mod Putting
+pub mod Relinked

@@ -1,0 +1,4 @@
+pub mod Links
+pub mod Trees
+pub mod Moments
+pub mod inside
