@@ -59,6 +59,7 @@ class Document:
         self.any = found.number("Any")
         self.begun = None  # inside a batch, the value at its begin
         self.stored = {}  # the blocks that lines have stored, by their CIDs
+        self.frame = {}  # what stands around the value in its root, as `values.blocks_of` takes it
 
     def of_any(self, data):
         return None if data is None else ("any", data)
@@ -278,7 +279,7 @@ class Document:
             return getattr(self, word)()
         if word in ("set", "ins", "del"):
             changed = self.edited(word, path, json)
-            blocks = values.blocks_of(self.found, self.ty, changed)
+            blocks = self.blocks_of(changed)
             self.value = changed
             return self.stores(blocks) if self.begun is None else "ok null"
         if word == "has":
@@ -287,7 +288,10 @@ class Document:
         return "no 10 reserved" if written is None else f"ok {written}"
 
     def blocks(self):
-        return values.blocks_of(self.found, self.ty, self.value)
+        return self.blocks_of(self.value)
+
+    def blocks_of(self, value):
+        return values.blocks_of(self.found, self.ty, value, **self.frame)
 
     def stores(self, blocks):
         """The reply to a line that stores the blocks of the value."""

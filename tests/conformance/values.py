@@ -553,14 +553,15 @@ def json_form(data):
 # ---- the commands
 
 
-def blocks_of(found, ty, value):
-    """The blocks of a value of a type, the root first, or the first refusal: hole, delimiter, depth, exhausted, size."""
+def blocks_of(found, ty, value, room=DEEPEST, over=lambda data: data):
+    """The blocks of a value of a type, the root first, or the first refusal: hole, delimiter, depth, exhausted, size. The root's is that of the
+    data over the value's own; it leaves room for so many levels of these."""
     found.check_holes(ty, value)
     found.nodes = []
     data = found.represented(ty, value)
-    if found.deep(ty, value) > DEEPEST:
+    if found.deep(ty, value) > room:
         raise Refused("7 depth")
-    blocks = [spelled(data)] + found.nodes
+    blocks = [spelled(over(data))] + found.nodes
     if any(len(block) > LONGEST_BLOCK for block in blocks):
         raise Refused("9 size")
     return blocks

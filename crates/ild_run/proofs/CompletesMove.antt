@@ -8,9 +8,8 @@ use Rattle.ild_compile.proofs.OneVerdict.{one_verdict_lem}
 use Rattle.ild_data.specs.Data.{Data}
 use Rattle.ild_data.specs.Limits.{longest_block}
 use Rattle.ild_data.specs.declared.id.BlockId.{BlockId}
-use Rattle.ild_edges.specs.Inputs.{MayBe, taken_of, file_at}
+use Rattle.ild_edges.specs.Inputs.{MayBe}
 use Rattle.ild_edges.specs.Sink.{Appends}
-use Rattle.ild_edges.specs.Store.{block_at}
 use Rattle.ild_edges.specs.declared.inputs.Taken.{Taken}
 use Rattle.ild_named.specs.Named.{schema_block}
 use Rattle.ild_named_root.specs.Names.{root_block}
@@ -28,7 +27,7 @@ use Rattle.ild_run.specs.Fault.{fault_text}
 use Rattle.ild_run.specs.Shown.{hash}
 use Rattle.ild_run.specs.Words.{Job, migrates}
 use Rattle.ild_run.specs.Ended.{Call, IsDue, MovesTo, RefusesMove, NamesRoot, Says}
-use Rattle.ild_run.specs.Complete.{IsGivenBare, LetsMove, RefusesPlainly, MovesPlainly}
+use Rattle.ild_run.specs.Complete.{IsGivenBare, LetsMove, MovesPlainly}
 use Rattle.ild_run.proofs.Matchings.{other_sort}
 use Rattle.ild_run.specs.declared.fault.Fault.{Fault}
 use Rattle.ild_run.specs.declared.fault.Fault.TheVariants as F

@@ -10,14 +10,14 @@ use Rattle.ild_edges.specs.Count.{Rose, bumped}
 use Rattle.ild_edges.specs.Inputs.{MayBe}
 use Rattle.ild_edges.specs.Store.{Moment, block_at}
 use Rattle.ild_edges.specs.declared.inputs.Taken.{Taken}
-use Rattle.ild_path_edits.specs.Judged.{Tests}
+use Rattle.ild_path_edits.specs.Judged.{Tests, AreTests}
 use Rattle.ild_run_open.specs.Starts.{Asks, HasFirst, Stops}
 use Rattle.ild_run_open.specs.declared.start.Start.{Start}
 use Rattle.ild_run_open.specs.declared.start.Start.TheVariants as B
 use Rattle.ild_run_open.specs.declared.start.StartFault.TheVariants as P
 use Rattle.ild_run_script.proofs.Plainness.{plain_lines}
 use Rattle.ild_run_script.proofs.Scripting.{asks_later}
-use Rattle.ild_run_script.specs.Plainly.{MayCome, StartsAt}
+use Rattle.ild_run_script.specs.Plainly.{MayBatch, MayCome, StartsAt}
 use Rattle.ild_run_script.specs.Scripts.{lines_on, AnswersAll as ScriptAll}
 use Rattle.ild_schema.specs.Names.{number_named}
 use Rattle.ild_schema.specs.Table.{IsTable}
@@ -26,7 +26,7 @@ use Rattle.ild_schema.specs.declared.number.TypeNo.{TypeNo}
 use Rattle.ild_schema.specs.declared.row.Row.{Row}
 use Rattle.ild_script.specs.Line.{lines_of}
 use Rattle.ild_script_session.proofs.Steps.{told_later}
-use Rattle.ild_script_session.specs.Plain.{AreApart}
+use Rattle.ild_script_session.specs.Plain.{AreApart, AreAllApart}
 use Rattle.ild_script_session.specs.Run.{Run}
 use Rattle.ild_script_session.specs.Session.{resting}
 use Rattle.ild_script_session.specs.Step.{Carries}
@@ -86,15 +86,15 @@ said Q w rows run n m start s b d (inr is) work q = absurd (subst (OfRun Q) (sym
 
 -- ---- where a script starts
 
-start_apart : (rows : List Row) (n : TypeNo) (tests : Tests) (start : Start) (v : Typed) (script : List ℕ) (id : BlockId) (m k : Moment) → Stops hash rows n start m (P.Clash id) k → AreApart k (MayCome rows n tests start v script) → ⊥
+pub start_apart : (rows : List Row) (n : TypeNo) (tests : Tests) (start : Start) (v : Typed) (script : List ℕ) (id : BlockId) (m k : Moment) → Stops hash rows n start m (P.Clash id) k → AreApart k (MayCome rows n tests start v script) → ⊥
 start_apart rows n tests (B.Root root) v script id m k stops apart = stops
 start_apart rows n tests B.Empty v script id m k stops apart = let hit = stops.hit in apart hit.kept hit.new (inl hit.among) hit.held hit.collide
 
-start_empty : (rows : List Row) (n : TypeNo) (start : Start) (v : Typed) (held : List (List ℕ)) (m k : Moment) → Stops hash rows n start m P.Mismatch k → StartsAt rows n start held v → ⊥
+pub start_empty : (rows : List Row) (n : TypeNo) (start : Start) (v : Typed) (held : List (List ℕ)) (m k : Moment) → Stops hash rows n start m P.Mismatch k → StartsAt rows n start held v → ⊥
 start_empty rows n (B.Root root) v held m k stops starts = stops
 start_empty rows n B.Empty v held m k stops starts = none-some v (sym stops.0 ∙ starts)
 
-start_there : (rows : List Row) (n : TypeNo) (start : Start) (v : Typed) (held : List (List ℕ)) (m k : Moment) (id : BlockId) (why : BlockWhy) → m.blocks ≡ Some held → Stops hash rows n start m (P.Block id why) k → StartsAt rows n start held v → ⊥
+pub start_there : (rows : List Row) (n : TypeNo) (start : Start) (v : Typed) (held : List (List ℕ)) (m k : Moment) (id : BlockId) (why : BlockWhy) → m.blocks ≡ Some held → Stops hash rows n start m (P.Block id why) k → StartsAt rows n start held v → ⊥
 start_there rows n (B.Root root) v held m k id why told stops starts = stops.none held v told starts
 start_there rows n B.Empty v held m k id why told stops starts = stops
 
@@ -115,6 +115,32 @@ is_told : (o : Option (List (List ℕ))) (held : List (List ℕ)) → o ≡ Some
 is_told o held is none = none-some held (sym none ∙ is)
 
 -- ---- the lines
+
+-- of a script that was answered from a moment on
+module _ (c : Call) (rows : List Row) (n : TypeNo) (tests : Tests) (start : Start) (v : Typed) (script : List ℕ) (m : Moment) (held : List (List ℕ)) (store : m.blocks ≡ Some held)
+    (tested : AreTests rows tests) (starts : StartsAt rows n start held v) (calm : Rose m.faults c.after.moment.faults → ⊥)
+    (apart : AreAllApart c.after.moment (MayBatch rows n tests v script) (MayCome rows n tests start v script)) where
+  pub plain_from : (status : Status) (refused : Bool) → status ≡ cond refused S.Refused S.Done → IsSchema rows → ScriptAll rows n start script m c.before.output refused c.after.moment c.after.output
+      → AnswersPlainly c rows n tests v script status
+  plain_from status refused is schema all =
+      let opened = all.answered.opened in
+      let later = asks_later rows n start m opened all.answered.asks in
+      let told = told_later m opened later (is_told m.blocks held store) in
+      let some = some_there opened.blocks told in
+      let from = all.answered.from some.0 tests some.1 tested in
+      let M = lines_on rows n tests in
+      let same = one_first rows schema n start v all.answered.block held some.0 m opened store some.1 all.answered.asks from.first starts in
+      let run : Run M opened (resting v) (lines_of script) all.replies c.after.moment from.last = subst (λ (x : Typed). Run M opened (resting x) (lines_of script) all.replies c.after.moment from.last) same from.run in
+      let carried = subst (λ (x : Typed). Carries M opened (resting x)) same from.carried in
+      let calm_run : Rose opened.faults c.after.moment.faults → ⊥ = λ rose. calm (let r : bumped opened.faults ≤ c.after.moment.faults = rose in let le = later.faults in omega arith) in
+      record {
+        replies = all.replies;
+        last = from.last.state;
+        run = plain_lines rows n tests opened v (lines_of script) all.replies c.after.moment from.last run carried told calm_run
+            (record { held = λ kept new may. apart.held kept new (inr may); inside = λ begins a b may_a may_b. apart.inside begins a b (inr may_a) (inr may_b) });
+        written = all.written;
+        status_is = is ∙ ap (λ b. cond b S.Refused S.Done) all.refused_is;
+      }
 
 -- of an accepted table
 record IsOfTable (Q : List Row → TypeNo → Start → List ℕ → Type 0) (rows : List Row) (n : TypeNo) (start : Start) (b : List ℕ) : Type 0 where
@@ -189,24 +215,8 @@ module _ (c : Call) (tests : Tests) (v : Typed) (script : List ℕ) (given : IsG
     lines_plainly : (status : Status) (refused : Bool) → status ≡ cond refused S.Refused S.Done → IsTable given.typed.rows → ScriptAll given.typed.rows given.typed.type given.start script c.before.moment c.before.output refused c.after.moment c.after.output
         → AnswersPlainly c given.typed.rows given.typed.type tests v script status
     lines_plainly status refused is tabled all =
-        let opened = all.answered.opened in
-        let later = asks_later given.typed.rows given.typed.type given.start c.before.moment opened all.answered.asks in
-        let told = told_later c.before.moment opened later (is_told c.before.moment.blocks given.held given.store) in
-        let some = some_there opened.blocks told in
-        let from = all.answered.from some.0 tests some.1 given.tested in
-        let M = lines_on given.typed.rows given.typed.type tests in
-        let same = one_first given.typed.rows (record { table = tabled; accepted = given.typed.schema.compiles.accepted }) given.typed.type given.start v all.answered.block given.held some.0 c.before.moment opened given.store some.1 all.answered.asks from.first given.starts in
-        let run : Run M opened (resting v) (lines_of script) all.replies c.after.moment from.last = subst (λ (x : Typed). Run M opened (resting x) (lines_of script) all.replies c.after.moment from.last) same from.run in
-        let carried = subst (λ (x : Typed). Carries M opened (resting x)) same from.carried in
-        let calm_run : Rose opened.faults c.after.moment.faults → ⊥ = λ rose. calm.faultless.store (let r : bumped opened.faults ≤ c.after.moment.faults = rose in let le = later.faults in omega arith) in
-        record {
-          replies = all.replies;
-          last = from.last.state;
-          run = plain_lines given.typed.rows given.typed.type tests opened v (lines_of script) all.replies c.after.moment from.last run carried told calm_run
-              (record { held = λ kept new may. calm.apart.held kept new (inr may); inside = λ begins a b may_a may_b. calm.apart.inside begins a b (inr may_a) (inr may_b) });
-          written = all.written;
-          status_is = is ∙ ap (λ b. cond b S.Refused S.Done) all.refused_is;
-        }
+        plain_from c given.typed.rows given.typed.type tests given.start v script c.before.moment given.held given.store given.tested given.starts calm.faultless.store calm.apart status refused is
+        (record { table = tabled; accepted = given.typed.schema.compiles.accepted }) all
 
     plainly : (status : Status) (refused : Bool) → status ≡ cond refused S.Refused S.Done → AnswersAll c t refused → AnswersPlainly c given.typed.rows given.typed.type tests v script status
     plainly status refused is all =

@@ -19,10 +19,10 @@ use Rattle.ild_run_open.specs.declared.start.StartFault.TheVariants as P
 use Rattle.ild_run_script.specs.Scripts.{ScriptAnswer, AnswersAll as ScriptAll, AnswersSome as ScriptSome}
 use Rattle.ild_run_script.specs.declared.fault.ScriptFault.{ScriptFault}
 use Rattle.ild_run_script.specs.declared.fault.ScriptFault.TheVariants as X
-use Rattle.ild_run.specs.inside.Answered.{start_fault, AnsweredTold, AnsweredAs}
+use Rattle.ild_run.specs.inside.Answered.{AnsweredTold, AnsweredAs}
 use Rattle.ild_run.proofs.Openings.{taking_of}
 use Rattle.ild_run.specs.Opening.{InputsFault}
-use Rattle.ild_run.specs.Fault.{fault_text, status_of}
+use Rattle.ild_run.specs.Fault.{fault_text, status_of, start_fault}
 use Rattle.ild_run.specs.Work.{Work, Taking, in_roles, lists, answers, makes, opens, work_of, job_work, IsTaking, AreTaken, TakesForRole, Reaches}
 use Rattle.ild_run.specs.Words.{Job}
 use Rattle.ild_run.specs.Cut.{CutAs, ToldAs}

@@ -99,8 +99,8 @@ module _ (seed count : ℕ) (c : Call) (status : Status) (ends : EndsGeneration 
 
 -- ---- as the words ask
 
-pub something_else : (o : Option (ℕ × ℕ)) (root : Option (List ℕ)) (c : Call) (status : Status) → o ≡ None → EndedBy None root c status → EndedBy o root c status
-something_else o root c status is ended = subst (λ o. EndedBy o root c status) (sym is) ended
+pub something_else : (o : Option (ℕ × ℕ)) (root : Option (List ℕ)) (script : Option (List ℕ × List ℕ)) (c : Call) (status : Status) → o ≡ None → EndedBy None root script c status → EndedBy o root script c status
+something_else o root script c status is ended = subst (λ o. EndedBy o root script c status) (sym is) ended
 
 pub nothing_generated : (o : Option (ℕ × ℕ)) (c : Call) (status : Status) → o ≡ None → IsCompleteBy o c status
 nothing_generated o c status is = subst (λ o. IsCompleteBy o c status) (sym is) tt
@@ -110,8 +110,8 @@ module _ (o : Option (ℕ × ℕ)) (count seed : ℕ) (c : Call) (status : Statu
   ends : EndsGeneration seed count c status
   ends = record { runs = runs; same = same }
 
-  pub generation_ended : (root : Option (List ℕ)) → EndedBy o root c status
-  generation_ended root = subst (λ o. EndedBy o root c status) (sym is) ends
+  pub generation_ended : (root : Option (List ℕ)) (script : Option (List ℕ × List ℕ)) → EndedBy o root script c status
+  generation_ended root script = subst (λ o. EndedBy o root script c status) (sym is) ends
 
   pub all_generated : IsCompleteBy o c status
   all_generated = subst (λ o. IsCompleteBy o c status) (sym is) (λ held tests told are lets. plain seed count c status ends held tests told are lets)

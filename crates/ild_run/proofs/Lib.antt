@@ -20,5 +20,7 @@ pub mod CompletesHeads
 pub mod CompletesPath
 pub mod Completes
 pub mod Generating
+pub mod Beneathings
+pub mod CompletesNamed
 pub mod Roots
 pub mod Apart

@@ -1,7 +1,6 @@
 -- How a call ends that gives a value a root that names its schema.
-use Rattle.std.proofs.Common.{◌≡◌, ◌⊎◌, ℕ, List, Option, Some, Result, Ok, Err, sym, subst, inl, inr}
+use Rattle.std.proofs.Common.{◌≡◌, ℕ, List, Some, Result, Ok, Err, sym, subst, inl, inr}
 use Rattle.ild_data.specs.declared.id.BlockId.{BlockId}
-use Rattle.ild_edges.specs.Count.{Rose}
 use Rattle.ild_run_create.specs.declared.fault.Refusal.{Refusal}
 use Rattle.ild_run_create.specs.declared.fault.Refusal.TheVariants as N
 use Rattle.ild_run_named.specs.Migrates.{Migrates}

@@ -1,6 +1,6 @@
 -- Calls that show the value under a root by the root alone, and that they do so where nothing stands in the way.
 use Rattle.std.proofs.Common.{◌≡◌, ◌⊎◌, ℕ, List, [], ◌∷◌, Bool, true, false, cond, Option, Some, None, Result, Ok, Err, inl, inr, refl, sym, ap, ◌∙◌, subst, arith}
-use Rattle.std.specs.Prelude.{map, codes, String, string_bytes, nat_eq}
+use Rattle.std.specs.Prelude.{map, option_map, codes, String, string_bytes, nat_eq}
 use Rattle.std.specs.declared.alloc.Global.{Global}
 use Rattle.std.proofs.lemmas.Bool.{false≢true, and_parts, eqb-true}
 use Rattle.std.proofs.lemmas.Option.{same_Some}
@@ -13,7 +13,8 @@ use Rattle.ild_edges.specs.Store.{Moment, block_at}
 use Rattle.ild_json.specs.Printing.{json_text}
 use Rattle.ild_named.proofs.Framing.{named_is_frame}
 use Rattle.ild_named.specs.Named.{named}
-use Rattle.ild_run_generate.specs.Words.{generation_in, generation_of}
+use Rattle.ild_run_generate.specs.Words.{generation_in, generation_of, numbers_in}
+use Rattle.ild_open_parts.specs.declared.fault.OpenFault.TheVariants as O
 use Rattle.ild_run_named.proofs.Told.{accepted_too, is_schema, number_is, one_described, one_table, tells}
 use Rattle.ild_run_named.specs.Describes.{StandsDescribed}
 use Rattle.ild_run_named.specs.Shows.{GetsItsBlocks, HasShown, Shows}
@@ -33,11 +34,13 @@ use Rattle.ild_run.specs.Cut.{CutAs, ToldAs}
 use Rattle.ild_run.specs.Ended.{Call, Ended}
 use Rattle.ild_run.specs.Fault.{code_of, fault_text}
 use Rattle.ild_run.specs.Named.{root_in, root_shown, RevealsRoot, EndsRoot, IsOfWords, RootsNeedNoSchema, IsRevealable, LetsReveal, IsRevealedBy}
+use Rattle.ild_run.specs.NamedScript.{EndsScript, IsAnsweredBy, script_in, script_run}
 use Rattle.ild_run.specs.Shown.{hash, ShownTold}
 use Rattle.ild_run.specs.Words.{checks, job_in, job_of}
 use Rattle.ild_run.specs.declared.fault.Fault.TheVariants as F
 use Rattle.ild_run.specs.declared.status.Status.{Status}
 use Rattle.ild_run.specs.declared.status.Status.TheVariants as S
+use Rattle.ild_run.proofs.CompletesNamed.{answered_beneath}
 use Rattle.ild_run.proofs.Endings.{ended_unread}
 use Rattle.ild_run.proofs.Generating.{cut_memory}
 
@@ -71,6 +74,45 @@ no_root (a ∷ b ∷ c ∷ d ∷ words) g e = absurd cc
 
 pub no_root_generated : (words : List (String Global)) (g : ℕ × ℕ) → generation_of words ≡ Some g → None ≡ root_shown words
 no_root_generated words g e = sym (no_root (map string_bytes words) g e)
+
+no_job_three : (words : List (List ℕ)) (s : List ℕ × List ℕ) → script_in words ≡ Some s → job_in words ≡ None
+no_job_three [] s e = absurd cc
+no_job_three (a ∷ []) s e = absurd cc
+no_job_three (a ∷ b ∷ []) s e = absurd cc
+no_job_three (a ∷ b ∷ c ∷ []) s e = refl
+no_job_three (a ∷ b ∷ c ∷ d ∷ words) s e = absurd cc
+
+pub no_job_scripted : (words : List (String Global)) (s : List ℕ × List ℕ) → Some s ≡ script_run words → job_of words ≡ None
+no_job_scripted words s e = no_job_three (map string_bytes words) s (sym e)
+
+no_script : (words : List (List ℕ)) (id : List ℕ) → root_in words ≡ Some id → script_in words ≡ None
+no_script [] id e = absurd cc
+no_script (a ∷ []) id e = absurd cc
+no_script (a ∷ b ∷ []) id e = refl
+no_script (a ∷ b ∷ c ∷ words) id e = absurd cc
+
+pub no_script_shown : (words : List (String Global)) (id : List ℕ) → Some id ≡ root_shown words → None ≡ script_run words
+no_script_shown words id e = sym (no_script (map string_bytes words) id (sym e))
+
+not_run : (verb : List ℕ) → same_text verb (codes "gen") ≡ true → same_text verb (codes "run") ≡ false
+not_run [] is = absurd (false≢true is)
+not_run (x ∷ xs) is =
+    let p = and_parts (nat_eq x 103) (same_text xs (codes "en")) is in
+    let same : x ≡ 103 = eqb-true x 103 p.0 in
+    ap (λ n. same_text (n ∷ xs) (codes "run")) same
+
+no_script_three : (words : List (List ℕ)) (g : ℕ × ℕ) → generation_in words ≡ Some g → script_in words ≡ None
+no_script_three [] g e = refl
+no_script_three (a ∷ []) g e = refl
+no_script_three (a ∷ b ∷ []) g e = refl
+no_script_three (verb ∷ count ∷ seed ∷ []) g e = by (same_text verb (codes "gen")) refl e where
+  by : (b : Bool) → same_text verb (codes "gen") ≡ b → cond b (numbers_in count seed) None ≡ Some g → script_in (verb ∷ count ∷ seed ∷ []) ≡ None
+  by true is e = ap (λ (b : Bool). cond b (option_map (λ id. (id, seed)) (root_of_text count)) None) (not_run verb is)
+  by false is e = absurd cc
+no_script_three (a ∷ b ∷ c ∷ d ∷ words) g e = refl
+
+pub no_script_generated : (words : List (String Global)) (g : ℕ × ℕ) → generation_of words ≡ Some g → None ≡ script_run words
+no_script_generated words g e = sym (no_script_three (map string_bytes words) g e)
 
 -- ---- one value
 
@@ -141,14 +183,20 @@ module _ (root : Option (List ℕ)) (id : List ℕ) (c : Call) (status : Status)
   ends : EndsRoot id c status
   ends = record { reveals = reveals; same = same }
 
-  pub root_ended : EndedBy None root c status
-  root_ended = subst (λ (o : Option (List ℕ)). EndedBy None o c status) is ends
+  pub root_ended : (script : Option (List ℕ × List ℕ)) → EndedBy None root script c status
+  root_ended script = subst (λ (o : Option (List ℕ)). EndedBy None o script c status) is ends
 
   pub root_revealed : IsRevealedBy root c status
   root_revealed = subst (λ (o : Option (List ℕ)). IsRevealedBy o c status) is (λ rows n v given lets. plain id c status ends rows n v given lets)
 
-pub rootless : (root : Option (List ℕ)) (c : Call) (status : Status) → None ≡ root → Ended c status → EndedBy None root c status
-rootless root c status is ended = subst (λ (o : Option (List ℕ)). EndedBy None o c status) is ended
+pub rootless : (root : Option (List ℕ)) (script : Option (List ℕ × List ℕ)) (c : Call) (status : Status) → None ≡ root → EndedBy None None script c status → EndedBy None root script c status
+rootless root script c status is ended = subst (λ (o : Option (List ℕ)). EndedBy None o script c status) is ended
+
+pub script_ended : (script : Option (List ℕ × List ℕ)) (s : List ℕ × List ℕ) (c : Call) (status : Status) → Some s ≡ script → EndsScript s c status → EndedBy None None script c status
+script_ended script s c status is ends = subst (λ (o : Option (List ℕ × List ℕ)). EndedBy None None o c status) is ends
+
+pub scriptless : (script : Option (List ℕ × List ℕ)) (c : Call) (status : Status) → None ≡ script → Ended c status → EndedBy None None script c status
+scriptless script c status is ended = subst (λ (o : Option (List ℕ × List ℕ)). EndedBy None None o c status) is ended
 
 pub nothing_revealed : (root : Option (List ℕ)) (c : Call) (status : Status) → None ≡ root → IsRevealedBy root c status
 nothing_revealed root c status is = subst (λ (o : Option (List ℕ)). IsRevealedBy o c status) is tt
@@ -168,9 +216,25 @@ module _ (c : Call) (status : Status) (inputs : c.after.supply ≡ c.before.supp
     same = inputs;
   }
 
-  pub unread_ended : (root : Option (List ℕ)) → EndedBy None root c status
-  unread_ended None = ended_unread c status same told
-  unread_ended (Some id) = unread id
+  unread_script : (s : List ℕ × List ℕ) → EndsScript s c status
+  unread_script s = record {
+    table = Err O.Memory;
+    behind = c.before.moment;
+    names = record { answer = tt; reads = reads_none c.before.moment; gets = omega arith };
+    told = (told, same, inputs);
+  }
+
+  pub unread_answered : (script : Option (List ℕ × List ℕ)) → IsAnsweredBy script c status
+  unread_answered None = tt
+  unread_answered (Some s) = answered_beneath s c status (unread_script s)
+
+  pub unread_last : (script : Option (List ℕ × List ℕ)) → EndedBy None None script c status
+  unread_last None = ended_unread c status same told
+  unread_last (Some s) = unread_script s
+
+  pub unread_ended : (root : Option (List ℕ)) (script : Option (List ℕ × List ℕ)) → EndedBy None root script c status
+  unread_ended None script = unread_last script
+  unread_ended (Some id) script = unread id
 
   pub unread_revealed : (root : Option (List ℕ)) → IsRevealedBy root c status
   unread_revealed None = tt

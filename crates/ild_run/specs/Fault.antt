@@ -7,6 +7,8 @@ use Rattle.ild_compile.specs.Line.{flaw_text}
 use Rattle.ild_compile.specs.declared.error.SchemaFault.{SchemaFault}
 use Rattle.ild_run_create.specs.declared.fault.Refusal.{Refusal}
 use Rattle.ild_run_create.specs.declared.fault.Refusal.TheVariants as R
+use Rattle.ild_run_open.specs.declared.start.StartFault.{StartFault}
+use Rattle.ild_run_open.specs.declared.start.StartFault.TheVariants as P
 use Rattle.ild_data.specs.Spell.{cid_of}
 use Rattle.ild_data.specs.CidText.{cid_text_of}
 use Rattle.ild_run.specs.declared.fault.Fault.{Fault}
@@ -29,6 +31,14 @@ status_of F.Memory = S.Memory
 status_of (F.Value r) = S.Value
 status_of F.Proof = S.Value
 status_of (F.Root id why) = S.Root
+
+-- of a script that can't start: a type without an empty value is refused as a value that isn't of it
+abbrev pub start_fault : StartFault → Fault
+start_fault (P.Block id why) = F.Root id why
+start_fault P.Mismatch = F.Value R.Mismatch
+start_fault P.Store = F.Store
+start_fault (P.Clash id) = F.Clash id
+start_fault P.Memory = F.Memory
 
 abbrev pub input_text : Role → Trouble → List ℕ
 input_text Role.Schema T.Failed = codes "fault 5 input schema failed\n"

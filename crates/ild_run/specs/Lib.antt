@@ -9,5 +9,6 @@ pub mod Ended
 pub mod Complete
 pub mod Generator
 pub mod Named
+pub mod NamedScript
 pub mod Asked
 pub mod inside

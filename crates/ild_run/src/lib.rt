@@ -2,6 +2,7 @@
 //! one or over named heads, it is told what a proof says of one, a proof is made, or a map is generated.
 #![tactic(auto)]
 
+mod beneath;
 mod fault;
 mod generator;
 mod laws;

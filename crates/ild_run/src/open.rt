@@ -300,7 +300,7 @@ pub fn job_of(alloc: Global, words: &[String]) -> Result<Option<Job<'_>>, Fault>
 }
 
 /// Takes the input of a role.
-fn take_input<I: Inputs>(inputs: &mut I, role: Role, name: &str) -> Result<Octets, Fault>
+pub(crate) fn take_input<I: Inputs>(inputs: &mut I, role: Role, name: &str) -> Result<Octets, Fault>
     ensures { TakesInput (I.supply inputs.old) role name.now result (I.supply inputs.new) }
 {
     match inputs.take(name) {

@@ -1,24 +1,26 @@
 //! The top call.
-ghost use Rattle.std.specs.Prelude.{◌≡◌, ◌≤◌, ◌<◌, length, Some};
+ghost use Rattle.std.specs.Prelude.{◌≡◌, ◌≤◌, ◌<◌, length, Some, None};
 ghost use Rattle.ild_edges.specs.Inputs.{After};
 ghost use Rattle.ild_edges.specs.Store.{Later};
 ghost use Rattle.ild_run.specs.Words.{job_of};
 ghost use Rattle.ild_run.specs.Opening.{job_seen, IsReady};
-ghost use Rattle.ild_run.specs.Fault.{cut_status};
+ghost use Rattle.ild_run.specs.Fault.{cut_status, start_fault};
 ghost use Rattle.ild_run.specs.Cut.{ToldAs};
 ghost use Rattle.ild_run.specs.Listed.{ListedAs};
 ghost use Rattle.ild_run.specs.inside.Matched.{MatchedAs};
 ghost use Rattle.ild_run.specs.inside.Carried.{CarriedAs};
 ghost use Rattle.ild_run.specs.inside.Made.{MadeAs, made_fault};
-ghost use Rattle.ild_run.specs.inside.Answered.{AnsweredAs, start_fault};
+ghost use Rattle.ild_run.specs.inside.Answered.{AnsweredAs};
 ghost use Rattle.ild_run.specs.Shown.{Replied};
 ghost use Rattle.ild_run.specs.Ended.{Ended, call_of};
 ghost use Rattle.ild_run.specs.Complete.{IsComplete};
 ghost use Rattle.ild_run.specs.Asked.{EndedBy};
 ghost use Rattle.ild_run.specs.Generator.{IsCompleteBy};
 ghost use Rattle.ild_run.specs.Named.{IsRevealedBy, root_shown};
+ghost use Rattle.ild_run.specs.NamedScript.{IsAnsweredBy, script_run};
 ghost use Rattle.ild_run_generate.specs.Words.{generation_of};
 
+use crate::beneath::{run_root, script_run};
 use crate::fault::{Fault, write_fault};
 use crate::generator::run_generator;
 use crate::listed::names_json;
@@ -142,7 +144,7 @@ pub(crate) fn reply<W: Sink>(alloc: Global, reply: &Reply, due: Status, out: &mu
 }
 
 /// The fault of a script that can't start. Where the type has no empty value, the value is refused as any other that isn't of the type.
-fn start_fault(fault: StartFault) -> Fault
+pub(crate) fn start_fault(fault: StartFault) -> Fault
     ensures { result ≡ start_fault fault }
 {
     match fault {
@@ -253,6 +255,32 @@ fn carry_out<I: Inputs, K: Store, W: Sink>(
     }
 }
 
+/// Does what the words say that name a schema, or answers a script on the value under a root that names its own; and answers how it ended.
+fn carry_scripts<I: Inputs, K: Store, W: Sink>(
+    alloc: Global,
+    words: &[String],
+    inputs: &mut I,
+    store: &mut K,
+    out: &mut W,
+) -> Status
+    ensures ended { EndedBy None None (script_run words.now)
+        (call_of (job_of words.now) (I.supply inputs.old) (K.moment store.old) (W.output out.old) (I.supply inputs.new) (K.moment store.new) (W.output out.new))
+        result }
+    ensures complete { IsComplete (call_of (job_of words.now) (I.supply inputs.old) (K.moment store.old) (W.output out.old) (I.supply inputs.new) (K.moment store.new) (W.output out.new)) result }
+    ensures answered { IsAnsweredBy (script_run words.now)
+        (call_of (job_of words.now) (I.supply inputs.old) (K.moment store.old) (W.output out.old) (I.supply inputs.new) (K.moment store.new) (W.output out.new))
+        result }
+    ensures inputs { After (I.supply inputs.old) (I.supply inputs.new) }
+    ensures later { Later (K.moment store.old) (K.moment store.new) }
+    ensures sink { (W.output out.old).faults ≤ (W.output out.new).faults }
+{
+    match script_run(alloc, words) {
+        Ok(Some((root, script))) => run_root(alloc, &root, script, inputs, store, out),
+        Ok(None) => carry_out(alloc, words, inputs, store, out),
+        Err(_) => tell(alloc, Fault::Memory, out),
+    }
+}
+
 /// Does what the words say that don't run the generator, and answers how it ended.
 fn carry_words<I: Inputs, K: Store, W: Sink>(
     alloc: Global,
@@ -261,11 +289,14 @@ fn carry_words<I: Inputs, K: Store, W: Sink>(
     store: &mut K,
     out: &mut W,
 ) -> Status
-    ensures ended { EndedBy None (root_shown words.now)
+    ensures ended { EndedBy None (root_shown words.now) (script_run words.now)
         (call_of (job_of words.now) (I.supply inputs.old) (K.moment store.old) (W.output out.old) (I.supply inputs.new) (K.moment store.new) (W.output out.new))
         result }
     ensures complete { IsComplete (call_of (job_of words.now) (I.supply inputs.old) (K.moment store.old) (W.output out.old) (I.supply inputs.new) (K.moment store.new) (W.output out.new)) result }
     ensures revealed { IsRevealedBy (root_shown words.now)
+        (call_of (job_of words.now) (I.supply inputs.old) (K.moment store.old) (W.output out.old) (I.supply inputs.new) (K.moment store.new) (W.output out.new))
+        result }
+    ensures answered { IsAnsweredBy (script_run words.now)
         (call_of (job_of words.now) (I.supply inputs.old) (K.moment store.old) (W.output out.old) (I.supply inputs.new) (K.moment store.new) (W.output out.new))
         result }
     ensures inputs { After (I.supply inputs.old) (I.supply inputs.new) }
@@ -274,7 +305,7 @@ fn carry_words<I: Inputs, K: Store, W: Sink>(
 {
     match root_shown(alloc, words) {
         Ok(Some(root)) => reveal(alloc, &root, store, out),
-        Ok(None) => carry_out(alloc, words, inputs, store, out),
+        Ok(None) => carry_scripts(alloc, words, inputs, store, out),
         Err(_) => tell(alloc, Fault::Memory, out),
     }
 }
@@ -287,7 +318,8 @@ fn carry_words<I: Inputs, K: Store, W: Sink>(
 /// value at that line. A line that is refused changes nothing, and its cause is there. Under `new` the value of a type that an input means as DAG-JSON is built and put, and its root is printed;
 /// or the first cause is told for which no store holds such a value. Under `show` the value of a type that stands under a root is read
 /// and written as DAG-JSON; or a block is told that isn't held, or isn't what has to stand there, where no such value does. Without a schema and
-/// a type `show` takes both from the root, which names the type and links to the schema's text; and `migrate` gives the value of a type that
+/// a type `show` takes both from the root, which names the type and links to the schema's text, and so does `run`: its lines are answered as on
+/// the root, which is the struct of a name, a value and a link, with the path of each through the value. And `migrate` gives the value of a type that
 /// stands under a root another root, which names its schema so, puts the schema's text, and prints the new root. Under `compat`
 /// the types with one name of two schemas are compared: `ok true` tells that all that stands as a value of the first stands as one of the
 /// other, in the same blocks and with the same shown form; or a pair of their types is told, and a rule that fails for it. Under `verify`
@@ -305,7 +337,7 @@ pub fn run<I: Inputs, K: Store, W: Sink>(
     out: &mut W,
 ) -> Status
     // The status, the text that was written, the cause of both, and what came of the store.
-    ensures ended { EndedBy (generation_of words.now) (root_shown words.now)
+    ensures ended { EndedBy (generation_of words.now) (root_shown words.now) (script_run words.now)
         (call_of (job_of words.now) (I.supply inputs.old) (K.moment store.old) (W.output out.old) (I.supply inputs.new) (K.moment store.new) (W.output out.new))
         result }
 
@@ -319,6 +351,11 @@ pub fn run<I: Inputs, K: Store, W: Sink>(
 
     // And of a value that is shown by its root alone.
     ensures revealed { IsRevealedBy (root_shown words.now)
+        (call_of (job_of words.now) (I.supply inputs.old) (K.moment store.old) (W.output out.old) (I.supply inputs.new) (K.moment store.new) (W.output out.new))
+        result }
+
+    // And of a script that is answered on the value under a root, by the root alone.
+    ensures answered { IsAnsweredBy (script_run words.now)
         (call_of (job_of words.now) (I.supply inputs.old) (K.moment store.old) (W.output out.old) (I.supply inputs.new) (K.moment store.new) (W.output out.new))
         result }
 

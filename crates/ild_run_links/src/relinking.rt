@@ -97,8 +97,8 @@ fn link_block(alloc: Global, id: &BlockId) -> Result<Octets, AllocError>
 
 // Whether a typed link to a block stands at a place.
 fn has_link(place: &Place<'_>) -> bool
-    ensures { (h : List ℕ → List ℕ) (was : List (List ℕ)) (p : InSlot) (path : List (List ℕ)) → IsRootedAt h (table_at place.now) was p place.now → IsPlace h (table_at place.now) was p path Set place.now
-        → IsSome (option_and_then (link_to (table_at place.now)) (at (table_at place.now) p path)) → result ≡ true }
+    ensures { (h : List ℕ → List ℕ) (was : List (List ℕ)) (p : InSlot) (q : List (List ℕ)) → IsRootedAt h (table_at place.now) was p place.now → IsPlace h (table_at place.now) was p q Set place.now
+        → IsSome (option_and_then (link_to (table_at place.now)) (at (table_at place.now) p q)) → result ≡ true }
 {
     match place.view() {
         Some(view) => typed_link(&view).is_some(),

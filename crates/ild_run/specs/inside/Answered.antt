@@ -2,10 +2,7 @@
 use Rattle.std.specs.Prelude.{◌≡◌, ◌≤◌, ℕ, List, Bool, true, false, Result, Ok, Err}
 use Rattle.ild_edges.specs.Sink.{Output}
 use Rattle.ild_edges.specs.Store.{Moment}
-use Rattle.ild_run_create.specs.declared.fault.Refusal.TheVariants as R
 use Rattle.ild_run_open.specs.declared.start.Start.{Start}
-use Rattle.ild_run_open.specs.declared.start.StartFault.{StartFault}
-use Rattle.ild_run_open.specs.declared.start.StartFault.TheVariants as P
 use Rattle.ild_run_script.specs.Scripts.{Scripts}
 use Rattle.ild_run_script.specs.declared.fault.ScriptFault.{ScriptFault}
 use Rattle.ild_run_script.specs.declared.fault.ScriptFault.TheVariants as X
@@ -13,19 +10,9 @@ use Rattle.ild_schema.specs.Table.{IsTable}
 use Rattle.ild_schema.specs.declared.number.TypeNo.{TypeNo}
 use Rattle.ild_schema.specs.declared.row.Row.{Row}
 use Rattle.ild_run.specs.Cut.{ToldAs}
-use Rattle.ild_run.specs.Fault.{cut_status}
-use Rattle.ild_run.specs.declared.fault.Fault.{Fault}
-use Rattle.ild_run.specs.declared.fault.Fault.TheVariants as F
+use Rattle.ild_run.specs.Fault.{cut_status, start_fault}
 use Rattle.ild_run.specs.declared.status.Status.{Status}
 use Rattle.ild_run.specs.declared.status.Status.TheVariants as S
-
--- a type without an empty value is refused as a value that isn't of it
-abbrev pub start_fault : StartFault → Fault
-start_fault (P.Block id why) = F.Root id why
-start_fault P.Mismatch = F.Value R.Mismatch
-start_fault P.Store = F.Store
-start_fault (P.Clash id) = F.Clash id
-start_fault P.Memory = F.Memory
 
 -- what is told behind the lines: of a script that couldn't start its fault, and else no more
 abbrev pub AnsweredTold : Result Bool ScriptFault → Output → Status → Output → Type 0
