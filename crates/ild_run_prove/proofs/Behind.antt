@@ -29,9 +29,8 @@ use Rattle.ild_typed.specs.Stands.{bare, blocks_of, Stands}
 use Rattle.ild_view_doc.specs.Block.{IsRootBlock}
 use Rattle.ild_view_doc.specs.Docs.{block_in, table_in, type_in}
 use Rattle.ild_view_doc.specs.declared.doc.Doc.{Doc}
-use Rattle.ild_run_prove.specs.Proved.{NotProved, ProveAnswer, ProvesPath}
-use Rattle.ild_run_prove.specs.inside.Faults.{made_fault, open_fault}
-use Rattle.ild_run_prove.specs.inside.Prints.{Prints}
+use Rattle.ild_run_prove.specs.Proved.{NotProved, Prints, ProveAnswer, ProvesPath}
+use Rattle.ild_run_prove.specs.inside.Faults.{IsMadeFault, made_fault, open_fault}
 use Rattle.ild_run_prove.specs.declared.fault.ProveFault.{ProveFault}
 use Rattle.ild_run_prove.specs.declared.fault.ProveFault.TheVariants as F
 
@@ -105,8 +104,7 @@ module _ (h : List ℕ → List ℕ) (rows : List Row) (n : TypeNo) (id : List �
       → ∥ Proves h (table_in d) (type_in d) (block_in d) path k proof j ∥₁ → Prints proof json → ProvesPath h rows n id path m (Ok json) j
   proved y bound proof json stands made prints = answered_so y bound (Ok proof) stands (Ok json) (record {
     blocks = proof;
-    printed = prints.printed;
-    read = prints.read;
+    prints = prints;
     says = says_so proof made;
     held = λ held v told st. (on_held (Ok proof) stands held v told st).answer;
   })
@@ -124,10 +122,20 @@ module _ (h : List ℕ → List ℕ) (rows : List Row) (n : TypeNo) (id : List �
     by (H.Block at why) stands alone refuses = not_proved at why stands refuses
     by H.Store stands alone refuses = rose_later m.faults k.faults j.faults x.later.faults alone
     by H.Memory stands alone refuses = tt
-    by H.Exhausted stands alone refuses = tt
-    by (H.Clash at kept new) stands alone refuses = tt
-    by H.Size stands alone refuses = tt
-    by H.NoKey stands alone refuses = tt
+    by H.Exhausted stands alone refuses = absurd alone
+    by (H.Clash at kept new) stands alone refuses = absurd alone
+    by H.Size stands alone refuses = absurd alone
+    by H.NoKey stands alone refuses = absurd alone
+
+-- no other fault comes
+pub made_by : (k j : Moment) (fault : HamtFault) → FailsAlone {A = List (List ℕ)} k (Err fault) j → IsMadeFault fault
+made_by k j (H.Block at why) alone = tt
+made_by k j H.Store alone = tt
+made_by k j H.Memory alone = tt
+made_by k j H.Exhausted alone = absurd alone
+made_by k j (H.Clash at kept new) alone = absurd alone
+made_by k j H.Size alone = absurd alone
+made_by k j H.NoKey alone = absurd alone
 
 -- a root that wasn't opened
 pub unopened : (h : List ℕ → List ℕ) (rows : List Row) (n : TypeNo) (id : List ℕ) (path : List (List ℕ)) (m k : Moment) (fault : OpenFault) → Opens (HasOpened h rows n id k) h rows n id m (Err fault) k → ProvesPath h rows n id path m (Err (open_fault fault)) k

@@ -6,7 +6,7 @@ use Rattle.ild_data.specs.Limits.{deepest}
 use Rattle.ild_json.specs.Printing.{items_have_reserved, json_text}
 use Rattle.ild_json.specs.Reading.{json_read}
 use Rattle.ild_run_verify.specs.Proof.{blocks_data}
-use Rattle.ild_run_prove.specs.inside.Prints.{Prints}
+use Rattle.ild_run_prove.specs.Proved.{Prints}
 
 none_reserved : (bs : List (List ℕ)) → items_have_reserved (items_of (map bytes bs)) ≡ false
 none_reserved [] = refl

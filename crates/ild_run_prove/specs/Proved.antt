@@ -20,13 +20,17 @@ use Rattle.ild_typed.specs.Stands.{bare, blocks_of, Stands}
 use Rattle.ild_run_prove.specs.declared.fault.ProveFault.{ProveFault}
 use Rattle.ild_run_prove.specs.declared.fault.ProveFault.TheVariants as F
 
+-- the text is the JSON of the list of the blocks, which is read back
+pub record Prints (blocks : List (List ℕ)) (json : List ℕ) : Type 0 where
+  pub printed : json_text (blocks_data blocks) ≡ Some json
+  pub read : IsProof json blocks
+
 module _ (h : List ℕ → List ℕ) (rows : List Row) (n : TypeNo) (id : List ℕ) (path : List (List ℕ)) where
   -- The JSON of a list of blocks, which are read back of it. They say something of the path; and what they say a value answers that stands under the
   -- id in a store that tells what it holds.
   pub record HasProof (m : Moment) (json : List ℕ) : Type 0 where
     pub blocks : List (List ℕ)
-    pub printed : json_text (blocks_data blocks) ≡ Some json
-    pub read : IsProof json blocks
+    pub prints : Prints blocks json
     pub says : ∥ ((a : Answer) × BlocksSay h rows n id path blocks a) ∥₁
     pub held : (held : List (List ℕ)) (v : Value) → m.blocks ≡ Some held → Stands bare (block_at held) h rows n id v → ProvesOf h rows n id v path blocks
 

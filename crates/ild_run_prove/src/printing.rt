@@ -2,7 +2,7 @@
 ghost use Rattle.std.specs.Prelude.{◌≡◌, IfOk, map};
 ghost use Rattle.ild_data.specs.Data.{bytes};
 ghost use Rattle.ild_data.specs.Seen.{data_of};
-ghost use Rattle.ild_run_prove.specs.inside.Prints.{Prints};
+ghost use Rattle.ild_run_prove.specs.Proved.{Prints};
 ghost use Rattle.ild_run_verify.specs.Proof.{blocks_data};
 
 use ild_data::{Octets, Tree, Trees, Txt};

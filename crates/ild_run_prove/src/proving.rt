@@ -1,7 +1,7 @@
 //! A value is opened, and what stands at a path in it is proved.
 ghost use Rattle.std.specs.Prelude.{◌≡◌, ◌<◌, length};
 ghost use Rattle.ild_run_prove.specs.Proved.{ProvesPath};
-ghost use Rattle.ild_run_prove.specs.inside.Faults.{made_fault, open_fault};
+ghost use Rattle.ild_run_prove.specs.inside.Faults.{IsMadeFault, made_fault, open_fault};
 
 use crate::ProveFault;
 use crate::printing::json_of;
@@ -26,13 +26,15 @@ fn open_fault(fault: &OpenFault) -> ProveFault
 
 // The fault of a proof that isn't made.
 fn made_fault(fault: &HamtFault) -> ProveFault
+    requires { IsMadeFault fault.now }
     ensures { result ≡ made_fault fault.now }
 {
     match fault {
         HamtFault::Block { id, why } => ProveFault::Block { id: *id, why: *why },
         HamtFault::Store => ProveFault::Store,
-        HamtFault::Exhausted | HamtFault::Clash { .. } | HamtFault::Size => ProveFault::Memory,
-        HamtFault::NoKey | HamtFault::Memory => ProveFault::Memory,
+        HamtFault::Memory => ProveFault::Memory,
+        HamtFault::Exhausted | HamtFault::Clash { .. } | HamtFault::Size | HamtFault::NoKey =>
+            unreachable!(),
     }
 }
 

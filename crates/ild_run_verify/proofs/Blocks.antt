@@ -1,6 +1,7 @@
 -- The blocks that an input is the list of.
 use Rattle.std.proofs.Common.{◌≡◌, ◌<◌, ℕ, zero, suc, List, [], ◌∷◌, length, map, Result, Ok, Err, refl, sym, ap, ◌∙◌, arith}
 use Rattle.std.specs.Prelude.{get_or}
+use Rattle.ild_data.proofs.Lists.{items_by_list, items_list-items_of}
 use Rattle.ild_data.specs.Data.{Data, null, boolean, integer, text, bytes, list, map as map_of, link, Items, no_items, item, items_of, items_list}
 use Rattle.ild_data.specs.Seen.{data_of}
 use Rattle.ild_data.specs.declared.tree.Tree.{Tree}
@@ -74,18 +75,12 @@ no_blocks (x ∷ ts) (suc i) t d is lt other (b ∷ bs) same = no_blocks ts i t 
 
 -- data are a list of blocks where their items are those blocks
 pub list_of : (ds : Items) (bs : List (List ℕ)) → items_list ds ≡ map bytes bs → list ds ≡ blocks_data bs
-list_of ds bs same = ap list (sym (of_list ds) ∙ ap items_of same) where
-  of_list : (ds : Items) → items_of (items_list ds) ≡ ds
-  of_list no_items = refl
-  of_list (item d ds) = ap (λ xs. item d xs) (of_list ds)
+list_of ds bs same = ap list (items_by_list ds (map bytes bs) same)
 
 pub items_in : (ds : Items) (bs : List (List ℕ)) → list ds ≡ blocks_data bs → items_list ds ≡ map bytes bs
 items_in ds bs same =
     let one : ds ≡ items_of (map bytes bs) = cc in
-    ap items_list one ∙ list_back (map bytes bs) where
-      list_back : (xs : List Data) → items_list (items_of xs) ≡ xs
-      list_back [] = refl
-      list_back (x ∷ xs) = ap (λ ys. x ∷ ys) (list_back xs)
+    ap items_list one ∙ items_list-items_of (map bytes bs)
 
 pub reads_list : (ds : Items) (items : List Data) (result : Result (List (List ℕ)) VerifyFault) → items ≡ items_list ds → ReadsItems items result → ReadsList (list ds) result
 reads_list ds items (Ok bs) same read = list_of ds bs (sym same ∙ read)

@@ -10,25 +10,25 @@ use ild_json::{JsonErr, read};
 use std::alloc::Global;
 
 // The proof whose blocks these are, each as bytes.
-fn proof_of_items(alloc: Global, items: &[Tree]) -> Result<Proof, VerifyFault>
-    ensures { ReadsItems (map data_of items.now) result }
+fn proof_of_items(alloc: Global, items: Vec<Tree>) -> Result<Proof, VerifyFault>
+    ensures { ReadsItems (map data_of items.items) result }
 {
     let mut proof = Proof::new(alloc);
     for item in items {
         let Tree::Bytes(block) = item else {
             return Err(VerifyFault::Proof);
         };
-        proof.push(block.copy()?)?;
+        proof.push(block)?;
     }
     Ok(proof)
 }
 
 // The proof that data are: the list of its blocks.
-fn proof_of_tree(alloc: Global, tree: &Tree) -> Result<Proof, VerifyFault>
-    ensures { ReadsList (data_of tree.now) result }
+fn proof_of_tree(alloc: Global, tree: Tree) -> Result<Proof, VerifyFault>
+    ensures { ReadsList (data_of tree) result }
 {
     match tree {
-        Tree::List(items) => proof_of_items(alloc, items.as_slice()),
+        Tree::List(items) => proof_of_items(alloc, items.into_vec()),
         _ => Err(VerifyFault::Proof),
     }
 }
@@ -38,7 +38,7 @@ pub(crate) fn proof_of(alloc: Global, input: &[u8]) -> Result<Proof, VerifyFault
     ensures { ReadsProof input.now result }
 {
     match read(alloc, input) {
-        Ok(tree) => proof_of_tree(alloc, &tree),
+        Ok(tree) => proof_of_tree(alloc, tree),
         Err(JsonErr::Memory) => Err(VerifyFault::Memory),
         Err(
             JsonErr::Syntax | JsonErr::Number | JsonErr::Reserved | JsonErr::Bytes | JsonErr::Cid,

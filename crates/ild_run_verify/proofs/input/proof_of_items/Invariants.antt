@@ -1,7 +1,7 @@
-use Rattle.std.proofs.Common.{◌≡◌, map, take}
+use Rattle.std.proofs.Common.{◌≡◌, map}
 use Rattle.ild_data.specs.Data.{bytes}
 use Rattle.ild_data.specs.Seen.{data_of}
 use Rattle.ild_run_verify.proofs.input.proof_of_items.Given as goal
 
 abbrev pub invariant-loop-item : goal.invariant-loop-item
-invariant-loop-item l = map data_of (take l.item-index l.items) ≡ map bytes l.proof
+invariant-loop-item l = map data_of l.yielded ≡ map bytes l.proof
