@@ -1,6 +1,6 @@
 pub mod Alike
 pub mod Entered
-mod Fitting
+pub mod Fitting
 pub mod Known
 pub mod Pathing
 pub mod Rooting

@@ -81,7 +81,7 @@ module _ (count : ℕ) (others rows : List Row) (alike : AreAlike count others r
   pub forms_low : (s : Slot) → s.ty.0 < count → IsLowIn count (form_of rows s)
   forms_low s low = low_form count others rows alike s low
 
-  part_low : (s : Slot) (v : Value) (t : List ℕ) (q : InSlot) → s.ty.0 < count → part (holder_of rows s v) t ≡ Some q → IsLowSlot count q
+  pub part_low : (s : Slot) (v : Value) (t : List ℕ) (q : InSlot) → s.ty.0 < count → part (holder_of rows s v) t ≡ Some q → IsLowSlot count q
   part_low s (V.list vs) t q low e = list_low count (form_of rows s) vs t q (forms_low s low) e
   part_low s (V.map ps) t q low e = map_low count (form_of rows s) ps t q (forms_low s low) e
   part_low s (V.struct os) t q low e = struct_low count (form_of rows s) os t q (forms_low s low) e

@@ -134,15 +134,26 @@ module _ (h : List ℕ → List ℕ) (rows : List Row) (n : TypeNo) (table : IsT
     blocks_named all one =
         (all.0, all_push P (nodes h rows (plainly n) v) (schema_block source) (subst (AllByRecursion P) (append-nil (nodes h longer root whole_value) ∙ root_nodes) all.1) one)
 
+  -- ---- the room of the struct is that of the value, and one level
+
+  pub root_fits : (room : ℕ) → IsUtf8 name → Fits rows (suc room) (plainly n) v → Fits longer (suc (suc room)) root whole_value
+  root_fits room utf8 fits =
+      struct_fits longer (suc room) root n (V.text name) v (V.link cid) root_form
+      (text_fits longer room text name text_form utf8)
+      (fits_over (length rows) longer rows alike (suc room) (plainly n) v low fits)
+      (link_fits longer room link (number 0) cid link_form (id_fits (schema_block source)))
+
+  pub under_root : (room : ℕ) → Fits longer (suc room) root whole_value → Fits rows room (plainly n) v
+  under_root room fits =
+      fits_over (length rows) rows longer (alike_back (length rows) longer rows alike) room (plainly n) v low
+      (value_fits longer room root n (V.text name) v (V.link cid) root_form fits)
+
   module _ (block : List ℕ → Option (List ℕ)) (id : List ℕ) (naming : AreNaming name source) where
     to_bare : Stands (named name source) block h rows n id v → Stands bare block h longer (root_type rows) id whole_value
     to_bare stands = record {
       tree = over stands.tree;
       storable = record {
-        fits = struct_fits longer 95 root n (V.text name) v (V.link cid) root_form
-            (text_fits longer 94 text name text_form naming.name_text)
-            (fits_over (length rows) longer rows alike 95 (plainly n) v low stands.storable.fits)
-            (link_fits longer 94 link (number 0) cid link_form (id_fits (schema_block source)));
+        fits = root_fits 94 naming.name_text stands.storable.fits;
         tree = root_tree ∙ ap (option_map over) stands.storable.tree;
         sized = blocks_bare (λ b. length b ≤ longest_block) stands.tree stands.storable.sized;
       };
@@ -157,8 +168,7 @@ module _ (h : List ℕ → List ℕ) (rows : List Row) (n : TypeNo) (table : IsT
         by (d, told, same) = record {
           tree = d;
           storable = record {
-            fits = fits_over (length rows) rows longer (alike_back (length rows) longer rows alike) 95 (plainly n) v low
-                (value_fits longer 95 root n (V.text name) v (V.link cid) root_form stands.storable.fits);
+            fits = under_root 95 stands.storable.fits;
             tree = told;
             sized = blocks_named (λ b. length b ≤ longest_block) d
                 (subst (λ t. AllByRecursion (λ b. length b ≤ longest_block) (blocks_of bare h longer (root_type rows) whole_value t)) (sym same) stands.storable.sized) naming.short;

@@ -71,7 +71,7 @@ module _ (count : ℕ) (others rows : List Row) (alike : AreAlike count others r
       pairs_same s V.no_pairs low = refl
       pairs_same s (V.pair k v ps) low = ap₂ (λ a b. cons_both (option_map (λ d. (k, d)) a) b) (tree_same s v low) (pairs_same s ps low)
 
-      fields_same : (fs : List Field) (os : Optionals) → AllByRecursion (λ (f : Field). f.slot.ty.0 < count) fs → represented_fields at others fs os ≡ represented_fields at rows fs os
+      pub fields_same : (fs : List Field) (os : Optionals) → AllByRecursion (λ (f : Field). f.slot.ty.0 < count) fs → represented_fields at others fs os ≡ represented_fields at rows fs os
       fields_same fs V.no_optionals low = refl
       fields_same [] (V.absent os) low = refl
       fields_same [] (V.present v os) low = refl

@@ -1,1 +1,4 @@
 pub mod Replies
+pub mod Edits
+pub mod Lines
+pub mod Costs
