@@ -1,6 +1,7 @@
 pub mod After
 pub mod Beneath
 pub mod Edited
+pub mod Failing
 pub mod Found
 pub mod Fulling
 pub mod Giving

@@ -11,7 +11,7 @@ use Rattle.ild_hamt.specs.Descending.{Descends}
 use Rattle.ild_hamt.specs.declared.trail.Trail.{Trail}
 use Rattle.ild_inclusion_prove.proofs.Halts.{leaves, left_is, rooted, steps_here, steps_in, steps_none}
 use Rattle.ild_inclusion_prove.specs.inside.Adds.{RootsAre}
-use Rattle.ild_inclusion_prove.specs.inside.Faults.{IsAlone, told_as}
+use Rattle.ild_inclusion_prove.specs.inside.Faults.{told_as}
 use Rattle.ild_node_slots.specs.Views.{HasSlots}
 use Rattle.ild_node_slots.specs.declared.fault.HamtFault.{HamtFault}
 use Rattle.ild_node_slots.specs.declared.fault.HamtFault.TheVariants as H
@@ -84,16 +84,6 @@ WalksFrom h root m result n key = (p : HamtShape) (slots : List TrieSlot) → Ha
 
 pub same_key : (h : List ℕ → List ℕ) (root : NodeView) (m n : Moment) (result : Result Trail HamtFault) (k key : List ℕ) → k ≡ key → WalksFrom h root m result n k → WalksFrom h root m result n key
 same_key h root m n result k key same walks = subst (WalksFrom h root m result n) same walks
-
--- a descent gives no other fault
-pub descent_alone : (h : List ℕ → List ℕ) (root : NodeView) (key : List ℕ) (m n : Moment) (e : HamtFault) → ∥ ((p : HamtShape) × (slots : List TrieSlot) × HasSlots p root slots) ∥₁ → WalksFrom h root m (Err e) n key → IsAlone {A = Bool} (Err e)
-descent_alone h root key m n (H.Block id why) some walks = tt
-descent_alone h root key m n H.Store some walks = tt
-descent_alone h root key m n H.Memory some walks = tt
-descent_alone h root key m n H.Exhausted some walks = ∥∥₁_elim some (hlevel props) (λ s. (walks s.0 s.1 s.2).answer)
-descent_alone h root key m n H.NoKey some walks = ∥∥₁_elim some (hlevel props) (λ s. (walks s.0 s.1 s.2).answer)
-descent_alone h root key m n H.Size some walks = ∥∥₁_elim some (hlevel props) (λ s. (walks s.0 s.1 s.2).answer)
-descent_alone h root key m n (H.Clash id kept new) some walks = ∥∥₁_elim some (hlevel props) (λ s. (walks s.0 s.1 s.2).answer)
 
 module _ (h : List ℕ → List ℕ) (hamt : View) (root : NodeView) (key : List ℕ) (m n : Moment) (result : Result Trail HamtFault) (descent : WalksFrom h root m result n key) where
   pub entered : (p : HamtShape) (slots : List TrieSlot) → HasSlots p root slots → EntersTrie h p key slots m (entered_as result) n

@@ -13,7 +13,7 @@ use Rattle.ild_inclusion.specs.Branches.{so, found}
 use Rattle.ild_inclusion.specs.Says.{BlocksSay}
 use Rattle.ild_inclusion_held.specs.Laws.{ProofsHold}
 use Rattle.ild_inclusion_prove.proofs.Answering.{answers}
-use Rattle.ild_inclusion_prove.specs.Fails.{FailsAlone}
+use Rattle.ild_path_enter.specs.Enters.{FailsOnly as HamtFailsOnly}
 use Rattle.ild_inclusion_prove.specs.Proves.{HeldAnswer, Proves, ProvesHeld}
 use Rattle.ild_inclusion_prove.specs.inside.Adds.{AddsWay, FollowsSome}
 use Rattle.ild_inclusion_prove.specs.inside.Faults.{IsAlone, told_as}
@@ -72,7 +72,7 @@ module _ (h : List ℕ → List ℕ) (rows : List Row) (n : TypeNo) (b : List �
 
 -- ---- why there is none
 
-pub fails_alone : (A : Type 0) (m n : Moment) (e : HamtFault) → IsAlone {A = Bool} (Err e) → FailsOnly {A = Tree} m (Err (hamt_fault e)) n → FailsAlone {A = A} m (Err e) n
+pub fails_alone : (A : Type 0) (m n : Moment) (e : HamtFault) → IsAlone {A = Bool} (Err e) → FailsOnly {A = Tree} m (Err (hamt_fault e)) n → HamtFailsOnly {A = A} m (Err e) n
 fails_alone A m n (F.Block id why) own x = tt
 fails_alone A m n F.Store own x = x
 fails_alone A m n F.Memory own x = tt

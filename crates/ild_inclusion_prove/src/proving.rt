@@ -3,7 +3,7 @@ ghost use Rattle.std.specs.Prelude.{◌≡◌, ℕ, IfOk, List, Some};
 ghost use Rattle.ild_data.specs.Spell.{id_of};
 ghost use Rattle.ild_edges.specs.Gained.{OnlyReads};
 ghost use Rattle.ild_edges.specs.Store.{block_at};
-ghost use Rattle.ild_inclusion_prove.specs.Fails.{FailsAlone};
+ghost use Rattle.ild_path_enter.specs.Enters.{FailsOnly};
 ghost use Rattle.ild_inclusion_prove.specs.Proves.{Proves, ProvesHeld};
 ghost use Rattle.ild_path_found.specs.Sites.{RefusesBroken};
 ghost use Rattle.ild_schema.specs.Slots.{plainly};
@@ -38,7 +38,7 @@ pub fn prove<K: Store, H: KeyHash>(
 ) -> Result<Proof, HamtFault>
     ensures proves { IfOk result (λ proof. ∥ Proves H.hash_of (table_in doc.now) (type_in doc.now) (block_in doc.now) path.now (K.moment store.old) proof (K.moment store.new) ∥₁) }
     ensures only { OnlyReads (K.moment store.old) (K.moment store.new) }
-    ensures failed { FailsAlone (K.moment store.old) result (K.moment store.new) }
+    ensures failed { FailsOnly (K.moment store.old) result (K.moment store.new) }
     ensures refused { (f : Value) (root : IsRootBlock (table_in doc.now) (type_in doc.now) (block_in doc.now) f)
         → RefusesBroken H.hash_of (table_in doc.now) (id_of (block_in doc.now)) 96 (plainly (type_in doc.now)) root.tree (K.moment store.old) result (K.moment store.new) }
     ensures stands { (was : List (List ℕ)) (v : Value) → (K.moment store.old).blocks ≡ Some was → block_at was (id_of (block_in doc.now)) ≡ Some (block_in doc.now)

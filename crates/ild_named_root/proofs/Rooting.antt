@@ -38,17 +38,17 @@ bare_is_frame = record { less = omega arith; apart = λ c d same. same; fits = �
 
 -- ---- where nothing was put
 
-none_came : (bs : List (List ℕ)) (a c : Option (List (List ℕ))) → c ≡ a → BothTold a c (CameFrom bs)
+pub none_came : (bs : List (List ℕ)) (a c : Option (List (List ℕ))) → c ≡ a → BothTold a c (CameFrom bs)
 none_came bs a c same = subst (λ (o : Option (List (List ℕ))). BothTold a o (CameFrom bs)) (sym same) (by a)
   where
     by : (a : Option (List (List ℕ))) → BothTold a a (CameFrom bs)
     by None = tt
     by (Some x) = λ id b held. inl held
 
-still_in_order : (h : List ℕ → List ℕ) (rows : List Row) (ty : TypeNo) (b name source : List ℕ) (t : Data) (a c : Option (List (List ℕ))) → c ≡ a → BothTold a c (InOrder h rows ty b name source t)
-still_in_order h rows ty b name source t a c same = subst (λ (o : Option (List (List ℕ))). BothTold a o (InOrder h rows ty b name source t)) (sym same) (by a)
+pub still_in_order : (name source : List ℕ) (t : Data) (a c : Option (List (List ℕ))) → c ≡ a → BothTold a c (InOrder name source t)
+still_in_order name source t a c same = subst (λ (o : Option (List (List ℕ))). BothTold a o (InOrder name source t)) (sym same) (by a)
   where
-    by : (a : Option (List (List ℕ))) → BothTold a a (InOrder h rows ty b name source t)
+    by : (a : Option (List (List ℕ))) → BothTold a a (InOrder name source t)
     by None = tt
     by (Some x) = λ held. inl held
 
@@ -111,7 +111,7 @@ module _ (rows : List Row) (schema : IsSchema rows) (h : List ℕ → List ℕ) 
     unput t e only answer = record {
       answer = answer;
       adds = none_came (new_blocks name source t) m.blocks k.blocks only.blocks;
-      order = still_in_order h rows ty b name source t m.blocks k.blocks only.blocks;
+      order = still_in_order name source t m.blocks k.blocks only.blocks;
     }
 
     load_answer : (t : Data) (e : NameFault) → BeneathAnswer h rows ty b t m (Err e) k → NameAnswer h rows ty b name source t m (Err e) k
@@ -175,9 +175,9 @@ module _ (rows : List Row) (schema : IsSchema rows) (h : List ℕ → List ℕ) 
           subst (λ (o : Option (List (List ℕ))). BothTold o n.blocks (CameFrom (new_blocks name source t))) x.only.blocks
           (subst (λ (bs : List (List ℕ)). AddsOnly k n bs) (same_blocks t made) adds)
 
-      in_order : (r : Result (Unit {0}) NameFault) (t : Data) → AreMade name source t text root → Puts r → BothTold m.blocks n.blocks (InOrder h rows ty b name source t)
+      in_order : (r : Result (Unit {0}) NameFault) (t : Data) → AreMade name source t text root → Puts r → BothTold m.blocks n.blocks (InOrder name source t)
       in_order r t made y =
-          subst (λ (o : Option (List (List ℕ))). BothTold o n.blocks (InOrder h rows ty b name source t)) x.only.blocks
+          subst (λ (o : Option (List (List ℕ))). BothTold o n.blocks (InOrder name source t)) x.only.blocks
           (subst (λ (z : List ℕ × List ℕ). BothTold k.blocks n.blocks
           (λ was now. block_at now (id_of z.1) ≡ Some z.1 → (block_at was (id_of z.1) ≡ Some z.1) ⊎ (block_at now (id_of z.0) ≡ Some z.0)))
           (λ i. (made.text_is i, made.root_is i)) y.order)

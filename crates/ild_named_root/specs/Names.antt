@@ -35,6 +35,12 @@ root_block name source t = spell (named_data name (id_of (schema_block source)) 
 abbrev pub new_blocks : List ℕ → List ℕ → Data → List (List ℕ)
 new_blocks name source t = schema_block source ∷ root_block name source t ∷ []
 
+-- the root came only behind the schema's block
+abbrev pub InOrder : List ℕ → List ℕ → Data → List (List ℕ) → List (List ℕ) → Type 0
+InOrder name source t was now =
+    block_at now (id_of (root_block name source t)) ≡ Some (root_block name source t)
+    → (block_at was (id_of (root_block name source t)) ≡ Some (root_block name source t)) ⊎ (block_at now (id_of (schema_block source)) ≡ Some (schema_block source))
+
 -- the store is told as failing only where it failed
 abbrev pub Failed : Moment → NameFault → Moment → Type 0
 Failed m F.Store n = Rose m.faults n.faults
@@ -124,17 +130,11 @@ module _ (h : List ℕ → List ℕ) (rows : List Row) (ty : TypeNo) (b : List �
     NameAnswer t m (Err (F.Block id why)) n = IsBroken t m id.0 why n
     NameAnswer t m (Err F.Memory) n = Unit {0}
 
-    -- the root came only behind the schema's block
-    abbrev pub InOrder : Data → List (List ℕ) → List (List ℕ) → Type 0
-    InOrder t was now =
-        block_at now (id_of (root_block name source t)) ≡ Some (root_block name source t)
-        → (block_at was (id_of (root_block name source t)) ≡ Some (root_block name source t)) ⊎ (block_at now (id_of (schema_block source)) ≡ Some (schema_block source))
-
     -- of the data of the document's block
     pub record NamesData (t : Data) (m : Moment) (result : Result BlockId NameFault) (n : Moment) : Type 0 where
       pub answer : NameAnswer t m result n
       pub adds : AddsOnly m n (new_blocks name source t)
-      pub order : BothTold m.blocks n.blocks (InOrder t)
+      pub order : BothTold m.blocks n.blocks (InOrder name source t)
 
     -- a value is given such a root: no more gets than it has nodes of HAMTs, unless it nests too deep, and two puts at most
     pub record Names (m : Moment) (result : Result BlockId NameFault) (n : Moment) : Type 0 where

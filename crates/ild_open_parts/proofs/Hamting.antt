@@ -1,5 +1,7 @@
 -- The rows of a HAMT's root, and the whole that is read of it.
 use Rattle.std.proofs.Common.{◌≡◌, ℕ, ◌+◌, ◌≤◌, List, [], ◌∷◌, length, map, Bool, false, Some, refl, sym, ◌∙◌, ap, ap₂, subst, arith}
+use Rattle.std.proofs.Math.Logic.{∥∥₁_elim}
+use Rattle.std.proofs.Props.{props}
 use Rattle.std.specs.Prelude.{Result, Ok, Err}
 use Rattle.std.specs.Global.{Vec}
 use Rattle.std.specs.List.{AllByRecursion}
@@ -10,6 +12,7 @@ use Rattle.ild_data.specs.Trie.{TrieSlot}
 use Rattle.ild_data.specs.declared.hamt_shape.HamtShape.{HamtShape}
 use Rattle.ild_edges.specs.Store.{Moment, block_at}
 use Rattle.ild_edges.proofs.Reading.{from_both, from_later, from_more, from_told, reads_none, reads_then}
+use Rattle.ild_node_slots.specs.Faults.{IsReadFault}
 use Rattle.ild_node_slots.specs.Form.{AreTexts}
 use Rattle.ild_node_slots.specs.declared.fault.HamtFault.{HamtFault}
 use Rattle.ild_node_slots.specs.declared.fault.HamtFault.TheVariants as H
@@ -43,6 +46,16 @@ use Rattle.ild_open_parts.proofs.Wrongly.{rows_broken, tree_broken}
 
 -- ---- the rows
 
+-- a walk gives no other fault
+pub walk_reads : (h : List ℕ → List ℕ) (p : HamtShape) (m n : Moment) (e : HamtFault) → ∥ ((slots : List TrieSlot) × StopsWith h p slots m e n) ∥₁ → IsReadFault e
+walk_reads h p m n (H.Block id why) some = tt
+walk_reads h p m n H.Store some = tt
+walk_reads h p m n H.Memory some = tt
+walk_reads h p m n H.Exhausted some = ∥∥₁_elim some (hlevel props) (λ w. absurd w.1.0)
+walk_reads h p m n (H.Clash id kept new) some = ∥∥₁_elim some (hlevel props) (λ w. absurd w.1.0)
+walk_reads h p m n H.Size some = ∥∥₁_elim some (hlevel props) (λ w. absurd w.1.0)
+walk_reads h p m n H.NoKey some = ∥∥₁_elim some (hlevel props) (λ w. absurd w.1.0)
+
 module _ (h : List ℕ → List ℕ) (p : HamtShape) (t : Data) (slots : List TrieSlot) (at : List ℕ) (m n : Moment) (tree : IsTree t) (root : IsRoot p slots t) where
   only_walks : (r : Result (Vec Listed) HamtFault) → Walks h p slots at m r n → OnlyReads m n
   only_walks r w = record { later = w.reads.later; blocks = w.reads.blocks; given = w.reads.given; puts = w.reads.puts }
@@ -65,10 +78,10 @@ module _ (h : List ℕ → List ℕ) (p : HamtShape) (t : Data) (slots : List Tr
   walk_stops (H.Block id why) w broken = (λ held fs told texts x. let g = entries_are_given h p held t slots fs root texts x in w.1 held g.entries told g.gives, (slots, root, broken))
   walk_stops H.Store w broken = w
   walk_stops H.Memory w broken = tt
-  walk_stops H.Exhausted w broken = tt
-  walk_stops (H.Clash id kept new) w broken = tt
-  walk_stops H.Size w broken = tt
-  walk_stops H.NoKey w broken = tt
+  walk_stops H.Exhausted w broken = absurd w.0
+  walk_stops (H.Clash id kept new) w broken = absurd w.0
+  walk_stops H.Size w broken = absurd w.0
+  walk_stops H.NoKey w broken = absurd w.0
 
   pub rows_stop : (e : HamtFault) → Walks h p slots at m (Err e) n → ListsRows h p at t m (Err (told_fault e)) n
   rows_stop e w = record { answer = walk_stops e w.answer w.broken; only = only_walks (Err e) w; gets = few_gets (Err e) w (Err (told_fault e)) }

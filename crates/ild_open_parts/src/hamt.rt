@@ -2,6 +2,7 @@
 ghost use Rattle.std.specs.Prelude.{◌≡◌, ◌<◌, IfOk, length};
 ghost use Rattle.std.specs.List.{AllByRecursion};
 ghost use Rattle.ild_cbor.specs.declared.piece.Piece.TheVariants as P;
+ghost use Rattle.ild_node_slots.specs.Faults.{IsReadFault};
 ghost use Rattle.ild_open_parts.specs.Checked.{IsHamtRoot};
 ghost use Rattle.ild_open_parts.specs.Hamts.{IsSpelledRow, ListsRoot, RowAnswer, part_fault, told_fault};
 
@@ -17,16 +18,15 @@ use std::alloc::Global;
 
 /// The fault of a walk, as that of a reader.
 pub fn walk_fault(fault: &HamtFault) -> OpenFault
+    requires { IsReadFault fault.now }
     ensures { result ≡ told_fault fault.now }
 {
     match fault {
         HamtFault::Block { id, why } => OpenFault::Block { id: *id, why: *why },
         HamtFault::Store => OpenFault::Store,
-        HamtFault::Exhausted
-        | HamtFault::Clash { .. }
-        | HamtFault::Size
-        | HamtFault::NoKey
-        | HamtFault::Memory => OpenFault::Memory,
+        HamtFault::Memory => OpenFault::Memory,
+        HamtFault::Exhausted | HamtFault::Clash { .. } | HamtFault::Size | HamtFault::NoKey =>
+            unreachable!(),
     }
 }
 

@@ -82,11 +82,13 @@ pub record EntersHamt (h : List ℕ → List ℕ) (p : HamtShape) (rows : List R
   pub answer : EnterAnswer h p rows was elem room t ps es k m result n
   pub gets : n.gets ≤ m.gets + length (way h p k (trie_levels p) 0 es)
 
--- over every store: it failed only where faults rose
+-- over every store: a block is refused, the store failed, which it did then, or memory is wanting; there is no other fault
 abbrev pub FailsOnly : {A : Type 0} → Moment → Result A HamtFault → Moment → Type 0
 FailsOnly m (Ok x) n = Unit {0}
+FailsOnly m (Err (F.Block id why)) n = Unit {0}
 FailsOnly m (Err F.Store) n = Rose m.faults n.faults
-FailsOnly m (Err e) n = Unit {0}
+FailsOnly m (Err F.Memory) n = Unit {0}
+FailsOnly m (Err e) n = ⊥
 
 -- the value is that of the entry at the key, in the block of this id, and one of the values' slot
 pub record MeetsEntry (rows : List Row) (told : Option (List (List ℕ))) (z : Site) (id k : List ℕ) (e : Entry) : Type 0 where

@@ -16,10 +16,10 @@ pub same_fails : (A B : Type 0) (m n : Moment) (e : HamtFault) → FailsOnly {A 
 same_fails A B m n F.Store f = f
 same_fails A B m n F.Memory f = tt
 same_fails A B m n (F.Block id why) f = tt
-same_fails A B m n F.Exhausted f = tt
-same_fails A B m n F.NoKey f = tt
-same_fails A B m n F.Size f = tt
-same_fails A B m n (F.Clash id kept new) f = tt
+same_fails A B m n F.Exhausted f = absurd f
+same_fails A B m n F.NoKey f = absurd f
+same_fails A B m n F.Size f = absurd f
+same_fails A B m n (F.Clash id kept new) f = absurd f
 
 -- behind reads
 pub later_fails : (A : Type 0) (m k n : Moment) → OnlyReads m k → (r : Result A HamtFault) → FailsOnly k r n → FailsOnly m r n
@@ -27,10 +27,10 @@ later_fails A m k n reads (Ok x) f = tt
 later_fails A m k n reads (Err F.Store) f = let le = reads.later.faults in omega (arith, f, le)
 later_fails A m k n reads (Err F.Memory) f = tt
 later_fails A m k n reads (Err (F.Block id why)) f = tt
-later_fails A m k n reads (Err F.Exhausted) f = tt
-later_fails A m k n reads (Err F.NoKey) f = tt
-later_fails A m k n reads (Err F.Size) f = tt
-later_fails A m k n reads (Err (F.Clash id kept new)) f = tt
+later_fails A m k n reads (Err F.Exhausted) f = absurd f
+later_fails A m k n reads (Err F.NoKey) f = absurd f
+later_fails A m k n reads (Err F.Size) f = absurd f
+later_fails A m k n reads (Err (F.Clash id kept new)) f = absurd f
 
 -- the last of hops under a schema
 pub last_under : (rows : List Row) (hops : List Hop) (hop : Hop) → Some hop ≡ slice_get hops (length hops - 1) → All (IsUnder rows) hops → IsUnder rows hop

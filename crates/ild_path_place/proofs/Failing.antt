@@ -29,10 +29,10 @@ pub path_fails : (A B : Type 0) (m n : Moment) (e : HamtFault) → HamtFailsOnly
 path_fails A B m n H.Store f = f
 path_fails A B m n H.Memory f = tt
 path_fails A B m n (H.Block id why) f = tt
-path_fails A B m n H.Exhausted f = tt
-path_fails A B m n H.NoKey f = tt
-path_fails A B m n H.Size f = tt
-path_fails A B m n (H.Clash id kept new) f = tt
+path_fails A B m n H.Exhausted f = absurd f
+path_fails A B m n H.NoKey f = absurd f
+path_fails A B m n H.Size f = absurd f
+path_fails A B m n (H.Clash id kept new) f = absurd f
 
 -- the fault alone is told of
 pub same_fails : (A B : Type 0) (m n : Moment) (e : PathFault) → FailsOnly {A = A} m (Err e) n → FailsOnly {A = B} m (Err e) n

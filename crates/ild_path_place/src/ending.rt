@@ -12,14 +12,14 @@ ghost use Rattle.ild_schema.specs.Value.{Value, hamt};
 ghost use Rattle.ild_typed.specs.At.{InSlot};
 ghost use Rattle.ild_view.specs.View.{IsView, slot_of, table_of};
 
-use crate::fault::PathFault;
+use crate::fault::{PathFault, of_hamt};
 use crate::key::fits_key;
 use crate::place::End;
 use crate::refusal::{slot_at_key, slot_in_block};
 use crate::verb::Verb;
 use ild_data::{KeyHash, Path, Txt};
 use ild_edges::Store;
-use ild_path_enter::{Entered, enter};
+use ild_path_enter::enter;
 use ild_path_room::value_slot;
 use ild_path_rules::{Refusal, key_fits};
 use ild_schema::{Accepted, Slot};
@@ -116,25 +116,19 @@ pub(crate) fn end_at_key<'b, K: Store, H: KeyHash>(
         unreachable!();
     };
     let less = room.saturating_sub(HAMT_LEVELS);
-    let Entered { trail, entry } = enter(
-        alloc,
-        acc,
-        slot,
-        holder,
-        block,
-        last.as_str(),
-        less,
-        keys,
-        store,
-    )?;
-    let there = entry.is_some();
+    let key = last.as_str();
+    let entered = match enter(alloc, acc, slot, holder, block, key, less, keys, store) {
+        Ok(entered) => entered,
+        Err(fault) => return Err(of_hamt(&fault)),
+    };
+    let there = entered.entry.is_some();
     let slot = match slot_at_key(slot, there, verb) {
         Ok(slot) => slot,
         Err(refusal) => return Err(refused(refusal, k)),
     };
-    let key_fits = fits_key(alloc, acc, holder, there, last.as_str())?;
+    let key_fits = fits_key(alloc, acc, holder, there, key)?;
     Ok(Found {
-        end: End::AtKey(front, trail, entry),
+        end: End::AtKey(front, entered.trail, entered.entry),
         slot,
         key_fits,
         room: left,

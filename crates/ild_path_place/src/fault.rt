@@ -1,5 +1,6 @@
 //! Why a path leads to no place.
 ghost use Rattle.std.specs.Prelude.{◌≡◌};
+ghost use Rattle.ild_node_slots.specs.Faults.{IsReadFault};
 ghost use Rattle.ild_path_place.specs.Faults.{hamt_fault};
 ghost use Rattle.ild_path_place.specs.declared.fault.PathFault.TheVariants.{Memory};
 
@@ -39,18 +40,16 @@ impl<T: Drop> From<AllocFailed<T>> for PathFault {
     }
 }
 
-impl From<HamtFault> for PathFault {
-    ghost from_gives = { λ fault e. e ≡ hamt_fault fault };
-
-    fn from(fault: HamtFault) -> Self {
-        match fault {
-            HamtFault::Block { id, why } => PathFault::Block { id, why },
-            HamtFault::Store => PathFault::Store,
-            HamtFault::Exhausted
-            | HamtFault::Clash { .. }
-            | HamtFault::Size
-            | HamtFault::NoKey
-            | HamtFault::Memory => PathFault::Memory,
-        }
+/// The fault of entering HAMTs.
+pub(crate) fn of_hamt(fault: &HamtFault) -> PathFault
+    requires { IsReadFault fault.now }
+    ensures { result ≡ hamt_fault fault.now }
+{
+    match fault {
+        HamtFault::Block { id, why } => PathFault::Block { id: *id, why: *why },
+        HamtFault::Store => PathFault::Store,
+        HamtFault::Memory => PathFault::Memory,
+        HamtFault::Exhausted | HamtFault::Clash { .. } | HamtFault::Size | HamtFault::NoKey =>
+            unreachable!(),
     }
 }

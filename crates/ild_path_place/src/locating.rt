@@ -21,7 +21,7 @@ ghost use Rattle.ild_view_doc.specs.Block.{IsRootBlock};
 ghost use Rattle.ild_view_doc.specs.Docs.{block_in, table_in, type_in};
 
 use crate::ending::Found;
-use crate::fault::PathFault;
+use crate::fault::{PathFault, of_hamt};
 use crate::inner::end_behind;
 use crate::place::{End, Place};
 use crate::room::ROOM;
@@ -82,7 +82,10 @@ fn locate_last<'b, K: Store, H: KeyHash>(
         front: inner,
         left,
         room,
-    } = go_inward(alloc, acc, &root, front, ROOM, keys, store)?;
+    } = match go_inward(alloc, acc, &root, front, ROOM, keys, store) {
+        Ok(inward) => inward,
+        Err(fault) => return Err(of_hamt(&fault)),
+    };
     if !left.is_empty() {
         return Err(PathFault::Path {
             k: front.len().saturating_sub(left.len()),

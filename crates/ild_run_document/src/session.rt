@@ -15,12 +15,15 @@ impl<'s> Session for Document<'s> {
     ghost use Rattle.ild_run_document.specs.Document.{begun_in, doc_in, own_in};
     ghost use Rattle.ild_run_document.specs.Passes.{Passes};
     ghost use Rattle.ild_run_standing.specs.Standing.{IsAtState, StandsAt};
+    ghost use Rattle.ild_script_session.specs.Stands.{OverEach};
 
     ghost Value = { TypedValue };
 
     ghost Subject = { List Row × TypeNo };
 
     ghost subject = { λ d. (table_in (doc_in d), type_in (doc_in d)) };
+
+    ghost ready = { OverEach };
 
     ghost stands = { λ d m M s. StandsAt (doc_in d) (begun_in d) (own_in d) m M s };
 

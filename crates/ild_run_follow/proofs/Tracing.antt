@@ -52,7 +52,7 @@ module _ (h : List ℕ → List ℕ) (p : HamtShape) (k : List ℕ) (slots : Lis
   enter_failed (Err (H.Block id why)) bs last a = tt
   enter_failed (Err H.Store) bs last a = a
   enter_failed (Err H.Memory) bs last a = tt
-  enter_failed (Err e) bs last a = tt
+  enter_failed (Err e) bs last a = absurd a
 
   pub enters : (r : Result Trail HamtFault) → Descends h p k slots m r n → EntersTrie h p k slots m (entered_as r) n
   enters r d = record {

@@ -1,5 +1,6 @@
 //! Why nothing is told of a part.
 ghost use Rattle.std.specs.Prelude.{◌≡◌};
+ghost use Rattle.ild_node_slots.specs.Faults.{IsReadFault};
 ghost use Rattle.ild_run_follow.specs.inside.Faults.{hamt_fault, open_fault};
 ghost use Rattle.ild_run_follow.specs.declared.fault.ReadFault.TheVariants.{Memory};
 
@@ -40,16 +41,15 @@ impl<T: Drop> From<AllocFailed<T>> for ReadFault {
 
 /// The fault of a descent in a HAMT.
 pub(crate) fn of_hamt(fault: &HamtFault) -> ReadFault
+    requires { IsReadFault fault.now }
     ensures { result ≡ hamt_fault fault.now }
 {
     match fault {
         HamtFault::Block { id, why } => ReadFault::Block { id: *id, why: *why },
         HamtFault::Store => ReadFault::Store,
-        HamtFault::Exhausted
-        | HamtFault::Clash { .. }
-        | HamtFault::Size
-        | HamtFault::NoKey
-        | HamtFault::Memory => ReadFault::Memory,
+        HamtFault::Memory => ReadFault::Memory,
+        HamtFault::Exhausted | HamtFault::Clash { .. } | HamtFault::Size | HamtFault::NoKey =>
+            unreachable!(),
     }
 }
 

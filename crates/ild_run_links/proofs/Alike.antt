@@ -8,7 +8,7 @@ use Rattle.ild_data.proofs.Rising.{rises_put}
 use Rattle.ild_data.specs.Data as T
 use Rattle.ild_data.specs.Data.{Data, items_of, members_of}
 use Rattle.ild_data.specs.Key.{same_text, put, value_at, Rises}
-use Rattle.ild_data_alike.specs.Blank.{blank, blank_items, blank_members, blank_entry, blank_entries}
+use Rattle.ild_data_alike.specs.Blank.{blank, blank_items, blank_members, blank_entries}
 use Rattle.ild_path_edits.proofs.HeldTyped.{IsHeld, held, held_named, inside_any, with_slot}
 use Rattle.ild_path_edits.proofs.KeepTyped.{of_type_is_kept}
 use Rattle.ild_path_within.proofs.Splitting.{first_of_path}
@@ -24,7 +24,7 @@ use Rattle.ild_typed.specs.At.{InSlot, at, seen}
 use Rattle.ild_typed.specs.Holder.{Holder, fields, member, entries, elements, any_entries, any_elements, nothing, of_any, data_in, value_of}
 use Rattle.ild_typed.specs.OfType.{OfType, TestsKeys}
 use Rattle.ild_typed.specs.Schema.{IsSchema}
-use Rattle.ild_typed.specs.Segment.{part, set_part, field_at, set_field, index_of, at_index, member_named, put_last, put_by}
+use Rattle.ild_typed.specs.Segment.{part, set_part, field_at, set_field, index_of, at_index, put_last, put_by}
 use Rattle.ild_typed_alike.proofs.Paths.{blank_holder}
 use Rattle.ild_typed_alike.specs.Blank.{blank_value, blank_values, blank_pairs, blank_optionals}
 use Rattle.ild_typed_fronts.proofs.Pathing.{holder_back}

@@ -1,5 +1,5 @@
 -- On the way of a path there are as many nodes of HAMTs in a value as in one that differs in links alone.
-use Rattle.std.proofs.Common.{◌≡◌, ℕ, zero, suc, ◌+◌, Bool, true, false, cond, List, map, length, Option, Some, None, option_map, refl, ap, sym, ◌∙◌}
+use Rattle.std.proofs.Common.{◌≡◌, ℕ, zero, suc, ◌+◌, Bool, cond, List, map, length, Option, Some, None, option_map, refl, ap, sym, ◌∙◌}
 use Rattle.std.specs.Option.{option_map_or}
 use Rattle.std.specs.Prelude.{is_some}
 use Rattle.std.proofs.lemmas.List.{length-map}
@@ -23,12 +23,11 @@ use Rattle.ild_schema.specs.declared.def.TypeDef.TheVariants as D
 use Rattle.ild_schema.specs.declared.number.Slot.{Slot}
 use Rattle.ild_schema.specs.declared.row.Row.{Row}
 use Rattle.ild_script_meaning.specs.Costs.{met_in, met_in_map, on_way}
-use Rattle.ild_typed.specs.At.{InSlot}
 use Rattle.ild_typed.specs.Hamt.{whole}
 use Rattle.ild_typed.specs.Represented.{represented_pairs}
 use Rattle.ild_typed_alike.proofs.Paths.{as_many}
 use Rattle.ild_typed_alike.proofs.Values.{pairs_represented}
-use Rattle.ild_typed_alike.specs.Blank.{blank_in, blank_pairs, blank_value}
+use Rattle.ild_typed_alike.specs.Blank.{blank_pairs, blank_value}
 
 some_same : {X Y : Type 0} (f : X → Y) (o q : Option X) → option_map f o ≡ option_map f q → is_some o ≡ is_some q
 some_same f None None same = refl

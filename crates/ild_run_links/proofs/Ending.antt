@@ -1,5 +1,5 @@
 -- Where a path stops, as the way inward tells it.
-use Rattle.std.proofs.Common.{◌≡◌, ℕ, zero, suc, ◌+◌, ◌-◌, ◌<◌, ◌≤◌, ◌^◌, Bool, true, false, List, [], ◌∷◌, length, take, drop, Option, Some, None, option_map, IfSome, Ok, Err, refl, sym, ap, ◌∙◌, subst, arith}
+use Rattle.std.proofs.Common.{◌≡◌, ℕ, zero, suc, ◌+◌, ◌-◌, ◌<◌, true, List, [], ◌∷◌, length, take, drop, Option, Some, None, option_map, IfSome, Ok, Err, refl, sym, ap, ◌∙◌, subst, arith}
 use Rattle.std.proofs.lemmas.List.{length-drop, take_rest}
 use Rattle.std.proofs.lemmas.Option.{none-some, same_Some}
 use Rattle.ild_data.specs.Data.{Data}
@@ -10,7 +10,6 @@ use Rattle.ild_links.specs.declared.hop.Stop.{Stop}
 use Rattle.ild_links.specs.declared.hop.Stop.TheVariants as S
 use Rattle.ild_node_slots.specs.declared.fault.HamtFault.{HamtFault}
 use Rattle.ild_node_slots.specs.declared.fault.HamtFault.TheVariants as H
-use Rattle.ild_path_edits.specs.Stop.{stopped}
 use Rattle.ild_path_edits.specs.Stop as Stopping
 use Rattle.ild_path_enter.specs.Enters.{FailsOnly as FailsInward}
 use Rattle.ild_path_inward.proofs.Inwarding.{can_go_on}
@@ -18,7 +17,7 @@ use Rattle.ild_path_inward.specs.Inwards.{CanGoOn, GoesInward}
 use Rattle.ild_path_inward.specs.Levels.{CanGo}
 use Rattle.ild_path_inward.specs.declared.inward.Inward.{Inward}
 use Rattle.ild_run_links.specs.Links.{link_to}
-use Rattle.ild_run_links.specs.inside.Ends.{FailsOnly, StopsIn, StopsInward, StopsThere, link_unless, named}
+use Rattle.ild_run_links.specs.inside.Ends.{FailsOnly, StopsInward, StopsThere, link_unless, named}
 use Rattle.ild_run_links.specs.inside.Faults.{hamt_fault}
 use Rattle.ild_schema.specs.declared.number.TypeNo.{TypeNo}
 use Rattle.ild_schema.specs.declared.row.Row.{Row}
@@ -55,10 +54,10 @@ pub fails_as : (A : Type 0) (m k : Moment) (e : HamtFault) → FailsInward {A = 
 fails_as A m k H.Store a = a
 fails_as A m k H.Memory a = tt
 fails_as A m k (H.Block id why) a = tt
-fails_as A m k H.Exhausted a = tt
-fails_as A m k H.NoKey a = tt
-fails_as A m k H.Size a = tt
-fails_as A m k (H.Clash id kept new) a = tt
+fails_as A m k H.Exhausted a = absurd a
+fails_as A m k H.NoKey a = absurd a
+fails_as A m k H.Size a = absurd a
+fails_as A m k (H.Clash id kept new) a = absurd a
 
 -- ---- the value
 

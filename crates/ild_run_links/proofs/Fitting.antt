@@ -2,7 +2,7 @@
 use Rattle.std.proofs.Common.{◌≡◌, ◌≤◌, ℕ, zero, suc, List, [], ◌∷◌, drop, length, Bool, true, false, cond, Option, Some, None, IsSome, refl, ap, sym, subst, ◌∙◌, arith}
 use Rattle.std.specs.Option.{option_map_or}
 use Rattle.std.specs.Prelude.{IsSomeAnd, option_map, option_and_then}
-use Rattle.std.proofs.lemmas.Option.{same_Some, none-some}
+use Rattle.std.proofs.lemmas.Option.{same_Some}
 use Rattle.ild_data.specs.Bytes.{AreBytes}
 use Rattle.ild_data.specs.Cid.{IsCid}
 use Rattle.ild_data.specs.Data as T
@@ -24,17 +24,16 @@ use Rattle.ild_run_links.specs.Links.{leads_to, link_in, link_to, target_of}
 use Rattle.ild_schema.specs.Slots.{form_of}
 use Rattle.ild_schema.specs.Value as V
 use Rattle.ild_schema.specs.Value.{Value}
-use Rattle.ild_schema.specs.declared.def.TypeDef.{TypeDef}
 use Rattle.ild_schema.specs.declared.def.TypeDef.TheVariants as D
 use Rattle.ild_schema.specs.declared.number.Slot.{Slot}
 use Rattle.ild_schema.specs.declared.number.TypeNo.{TypeNo}
 use Rattle.ild_schema.specs.declared.row.Row.{Row}
 use Rattle.ild_typed.proofs.NodeElements.{block-link}
-use Rattle.ild_typed.specs.At.{InSlot, at, last_holder, seen}
+use Rattle.ild_typed.specs.At.{InSlot, at, seen}
 use Rattle.ild_typed.specs.Fits.{Fits, FitsPast, FormFits, ValueFits}
 use Rattle.ild_typed.specs.Hamt.{whole}
 use Rattle.ild_typed.specs.Holder.{Holder, value_of}
-use Rattle.ild_typed.specs.NodeReading.{id_in, links_block}
+use Rattle.ild_typed.specs.NodeReading.{links_block}
 use Rattle.ild_typed.specs.OfType.{OfType, TestsKeys}
 use Rattle.ild_typed.specs.Represented.{layered, represented}
 use Rattle.ild_typed.specs.Layer as L

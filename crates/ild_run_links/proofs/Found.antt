@@ -1,5 +1,5 @@
 -- The view of the link that stands at a place.
-use Rattle.std.proofs.Common.{◌≡◌, ℕ, ◌-◌, Bool, true, List, [], ◌∷◌, ◌++◌, map, length, slice_get, Option, Some, None, option_map, IsSome, refl, sym, ap, ◌∙◌, subst}
+use Rattle.std.proofs.Common.{◌≡◌, ℕ, ◌-◌, true, List, [], ◌∷◌, ◌++◌, map, length, slice_get, Option, Some, None, option_map, IsSome, refl, sym, ap, ◌∙◌, subst}
 use Rattle.std.specs.Prelude.{is_some, option_and_then}
 use Rattle.std.proofs.lemmas.Option.{none-some, same_Some}
 use Rattle.ild_data.specs.Data.{Data}
@@ -9,20 +9,20 @@ use Rattle.ild_edges.specs.Store.{block_at}
 use Rattle.ild_open_held.specs.Held.{IsHeld}
 use Rattle.ild_path_edits.proofs.RoomTests.{schemas_have_tests}
 use Rattle.ild_path_enter.specs.Enters.{EntryThere}
-use Rattle.ild_path_entered.proofs.Editing.{entry_part, hamt_seen, through_at}
+use Rattle.ild_path_entered.proofs.Editing.{hamt_seen, through_at}
 use Rattle.ild_path_entry.specs.Entry.{IsEntry, data_in, slot_in, table_in}
 use Rattle.ild_path_entry.specs.declared.entry.Entry.{Entry}
 use Rattle.ild_path_hops.proofs.Hopping.{hops_pass}
 use Rattle.ild_path_hops.proofs.Linking.{at_last, none_last}
 use Rattle.ild_path_hops.specs.HopLaws.{path_of_hops}
-use Rattle.ild_path_hops.specs.Hops.{AreHops, front_of, key_of, step_of}
+use Rattle.ild_path_hops.specs.Hops.{front_of, key_of, step_of}
 use Rattle.ild_path_hops.specs.Links.{IsBehind}
 use Rattle.ild_path_hops.specs.declared.hop.Hop.{Hop}
 use Rattle.ild_path_inward.proofs.Inwarding.{can_go_on}
 use Rattle.ild_path_inward.specs.Inwards.{CanGoOn, through}
-use Rattle.ild_path_place.specs.Places.{EndsAt, IsAtKey, IsPlace}
+use Rattle.ild_path_place.specs.Places.{EndsAt, IsPlace}
 use Rattle.ild_path_place.specs.Rooted.{IsRootedAt}
-use Rattle.ild_path_place.specs.Tells.{root_at, table_at}
+use Rattle.ild_path_place.specs.Tells.{root_at}
 use Rattle.ild_path_place.specs.Viewing.{ViewsEntry, ViewsPart}
 use Rattle.ild_path_place.specs.declared.place.End.{End}
 use Rattle.ild_path_place.specs.declared.place.End.TheVariants as D

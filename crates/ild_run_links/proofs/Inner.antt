@@ -1,13 +1,12 @@
 -- The part at the end of a path, in the innermost block.
 use Rattle.std.proofs.Common.{◌≡◌, ℕ, Bool, true, false, List, [], ◌∷◌, Option, Some, None, option_map, refl, sym, ap, ◌∙◌, subst}
-use Rattle.std.specs.Prelude.{option_and_then}
 use Rattle.std.proofs.lemmas.Option.{none-some, same_Some}
 use Rattle.ild_data.specs.Data.{Data}
 use Rattle.ild_path_edits.proofs.RoomTests.{schemas_have_tests}
 use Rattle.ild_path_edits.proofs.Stops.{stops_tell}
 use Rattle.ild_path_edits.specs.Stop.{Stop, part_along, stopped}
 use Rattle.ild_path_inward.specs.Levels.{CanGo}
-use Rattle.ild_run_links.specs.Links.{leads_to, link_in, link_to, target_of}
+use Rattle.ild_run_links.specs.Links.{link_in, link_to}
 use Rattle.ild_schema.specs.Slots.{form_of}
 use Rattle.ild_schema.specs.Value as V
 use Rattle.ild_schema.specs.Value.{Value}
@@ -16,7 +15,7 @@ use Rattle.ild_schema.specs.declared.number.TypeNo.{TypeNo}
 use Rattle.ild_schema.specs.declared.row.Row.{Row}
 use Rattle.ild_typed.specs.At.{InSlot, at}
 use Rattle.ild_typed_fronts.proofs.Pathing.{paths_of_fronts}
-use Rattle.ild_typed_fronts.specs.Front.{front as front_of, front_in, in_one_block, root_of, root_or_map, is_hamt}
+use Rattle.ild_typed_fronts.specs.Front.{front as front_of, front_in, in_one_block, root_or_map, is_hamt}
 use Rattle.ild_typed.specs.Hamt.{whole}
 use Rattle.ild_typed.specs.Represented.{represented}
 use Rattle.ild_view.specs.View.{IsView, slot_of, table_of}

@@ -1,18 +1,16 @@
 -- A link to another block comes to a place at which one stands.
-use Rattle.std.proofs.Common.{◌≡◌, ◌≤◌, ◌<◌, ◌+◌, ◌++◌, inl, inr, ⊎_elim, ℕ, suc, Bool, List, [], ◌∷◌, map, length, Option, Some, None, IsSome, Result, Ok, Err, refl, sym, ap, ◌∙◌, subst, arith}
+use Rattle.std.proofs.Common.{◌≡◌, ◌≤◌, ◌+◌, inl, inr, ⊎_elim, ℕ, suc, List, [], ◌∷◌, map, length, Option, Some, None, IsSome, Result, Ok, Err, refl, sym, ap, ◌∙◌, subst, arith}
 use Rattle.std.specs.List.{AllByRecursion}
-use Rattle.std.specs.Prelude.{Contains, IfErr, nat_le, option_and_then}
+use Rattle.std.specs.Prelude.{Contains, nat_le, option_and_then}
 use Rattle.std.proofs.lemmas.List.{length-append}
 use Rattle.std.proofs.lemmas.List.Elements.{All-contains_itself, recursion_from_All}
-use Rattle.ild_cbor.proofs.Blocks.{block_again}
 use Rattle.ild_cbor.specs.Block.{IsBlockOf}
 use Rattle.ild_cbor.specs.Nodes.{HasData as StandsFor}
 use Rattle.ild_cbor.specs.declared.node.Node.{Node}
 use Rattle.ild_data.proofs.AllOf.{all_append, all_contained, all_filter, all_first}
 use Rattle.ild_data.specs.Bytes.{AreBytes}
-use Rattle.ild_data.specs.Cid.{IsCid}
 use Rattle.ild_data.specs.Data as T
-use Rattle.ild_data.specs.Data.{Data, depth}
+use Rattle.ild_data.specs.Data.{Data}
 use Rattle.ild_data.specs.Limits.{longest_block}
 use Rattle.ild_data.specs.Spell.{cid_of, head, id_of, spell}
 use Rattle.ild_data.specs.declared.id.BlockId.{BlockId}
@@ -25,8 +23,7 @@ use Rattle.ild_path.specs.Replaces.{Brings, EditCause, IsChanged, IsHeldPart, Is
 use Rattle.ild_path.specs.declared.fault.EditFault.{EditFault}
 use Rattle.ild_path.specs.declared.fault.EditFault.TheVariants as P
 use Rattle.ild_path_edits.proofs.RoomTests.{schemas_have_tests}
-use Rattle.ild_path_edits.specs.Edit.{change, new_slot, set_at}
-use Rattle.ild_path_inward.specs.Levels.{counts, met_on}
+use Rattle.ild_path_edits.specs.Edit.{new_slot, set_at}
 use Rattle.ild_path_place.specs.Tells.{table_at}
 use Rattle.ild_path_place.specs.declared.place.Place.{Place}
 use Rattle.ild_path_place.specs.declared.verb.Verb.TheVariants as V
@@ -43,7 +40,6 @@ use Rattle.ild_run_links.specs.declared.fault.TreeFault.TheVariants as F
 use Rattle.ild_run_links.specs.inside.Faults.{AreClashBytes, edit_fault}
 use Rattle.ild_run_links.specs.inside.Sets.{Causes, PutsLink, SetAnswer, SetsThere}
 use Rattle.ild_schema.specs.Slots.{plainly}
-use Rattle.ild_schema.specs.Value as W
 use Rattle.ild_schema.specs.Value.{Value}
 use Rattle.ild_schema.specs.declared.number.Slot.{Slot}
 use Rattle.ild_schema.specs.declared.number.TypeNo.{TypeNo}
@@ -55,12 +51,10 @@ use Rattle.ild_typed.specs.Blocks.{nodes}
 use Rattle.ild_typed.specs.Hamt.{whole}
 use Rattle.ild_typed.specs.Fits.{Fits}
 use Rattle.ild_typed.specs.Schema.{IsSchema}
-use Rattle.ild_typed.specs.Represented.{represented}
 use Rattle.ild_typed.specs.Stands.{Stands, bare, blocks_of}
 use Rattle.ild_typed_alike.proofs.Nodes.{as_long}
 use Rattle.ild_typed_alike.specs.Blank.{blank_value}
 use Rattle.ild_typed_alike.specs.Laws.{IsAsLong}
-use Rattle.ild_typed_places.specs.Places.{children_in}
 
 -- ---- the block of a link
 

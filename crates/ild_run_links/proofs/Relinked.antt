@@ -1,24 +1,21 @@
 -- A link set in a tree's value, as the trees over a store answer it.
-use Rattle.std.proofs.Common.{◌≡◌, ◌≤◌, ◌+◌, ◌*◌, inl, ⊎_elim, ℕ, Bool, true, List, [], ◌∷◌, Option, Some, None, IsSome, Result, Ok, Err, refl, sym, ap, ◌∙◌, subst, arith}
+use Rattle.std.proofs.Common.{◌≡◌, ◌≤◌, ◌+◌, inl, ℕ, List, [], ◌∷◌, Some, IsSome, Result, Ok, Err, refl, sym, ◌∙◌, subst, arith}
 use Rattle.std.proofs.Math.Logic.{∥∥₁_map}
 use Rattle.std.specs.List.{AllByRecursion}
-use Rattle.std.specs.Prelude.{Contains, option_and_then}
+use Rattle.std.specs.Prelude.{option_and_then}
 use Rattle.ild_data.specs.Spell.{id_of}
 use Rattle.ild_data.specs.declared.id.BlockId.{BlockId}
 use Rattle.ild_edges.proofs.Later.{Later-trans}
-use Rattle.ild_edges.specs.Count.{Rose, bumped}
-use Rattle.ild_edges.specs.Gained.{AddsOnly, AddsWhole, CameFrom, CameWhole, OnlyReads}
+use Rattle.ild_edges.specs.Gained.{CameFrom, CameWhole, OnlyReads}
 use Rattle.ild_edges.specs.Store.{Keeps, Later, Moment, block_at}
 use Rattle.ild_edges.specs.Told.{BothTold, IfTold}
 use Rattle.ild_links.proofs.Linking.{before}
-use Rattle.ild_links.specs.Relinks.{Clashes, HasLink, IsSet, RelinkAnswer, Relinks}
-use Rattle.ild_links.specs.Stops.{IsLost}
-use Rattle.ild_links.specs.Trees.{Stands, Tree, followed, tree_of}
+use Rattle.ild_links.specs.Relinks.{HasLink, RelinkAnswer, Relinks}
+use Rattle.ild_links.specs.Trees.{Stands, followed, tree_of}
 use Rattle.ild_links.specs.declared.error.TreeErr.{TreeErr}
 use Rattle.ild_links.specs.declared.hop.Hop.{Hop}
-use Rattle.ild_path_inward.specs.Levels.{counts, met_on}
 use Rattle.ild_run_links.proofs.Setting.{both_same, causes_on, no_reads}
-use Rattle.ild_run_links.proofs.Standing.{blocks_are, stands_for, stands_under}
+use Rattle.ild_run_links.proofs.Standing.{stands_for, stands_under}
 use Rattle.ild_run_links.proofs.Stopped.{later_lacks}
 use Rattle.ild_run_links.specs.Links.{link_to, relinked}
 use Rattle.ild_run_links.specs.Moments.{HasStanding, HoldsBlock, HoldsValue, with_lacks}
@@ -32,7 +29,7 @@ use Rattle.ild_schema.specs.Value.{Value}
 use Rattle.ild_schema.specs.declared.number.TypeNo.{TypeNo}
 use Rattle.ild_schema.specs.declared.row.Row.{Row}
 use Rattle.ild_typed.proofs.TreeKept.{one_stands}
-use Rattle.ild_typed.specs.At.{at, way}
+use Rattle.ild_typed.specs.At.{at}
 use Rattle.ild_typed.specs.Schema.{IsSchema}
 use Rattle.ild_typed.specs.Stands.{IsFrame, Stands as StandsUnder, bare, blocks_of}
 use Rattle.ild_typed_places.specs.Places.{children_in}

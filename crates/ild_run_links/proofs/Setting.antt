@@ -19,12 +19,12 @@ use Rattle.ild_data.specs.declared.id.BlockId.{BlockId}
 use Rattle.ild_edges.specs.Gained.{CameFrom, CameWhole, IsUnder, OnlyReads}
 use Rattle.ild_edges.specs.Store.{Gets, Moment, Later, block_at}
 use Rattle.ild_edges.specs.declared.error.EdgeErr.{EdgeErr}
-use Rattle.ild_edges.specs.Told.{BothTold, IfTold}
+use Rattle.ild_edges.specs.Told.{BothTold}
 use Rattle.ild_open.proofs.Settling.{open_stops}
 use Rattle.ild_open_parts.specs.declared.fault.OpenFault.TheVariants as O
 use Rattle.ild_path_edits.proofs.RoomTests.{schemas_have_tests}
 use Rattle.ild_path_edits.proofs.Stops.{path_faults}
-use Rattle.ild_path_edits.specs.Edit.{change, set_at}
+use Rattle.ild_path_edits.specs.Edit.{set_at}
 use Rattle.ild_path_edits.specs.Stop.{place_fault}
 use Rattle.ild_path_inward.specs.Levels.{met_on}
 use Rattle.ild_path_place.specs.Places.{Locates, LocateAnswer, path_fault}
@@ -33,7 +33,6 @@ use Rattle.ild_path_place.specs.declared.fault.PathFault.{PathFault}
 use Rattle.ild_path_place.specs.declared.fault.PathFault.TheVariants as L
 use Rattle.ild_path_place.specs.declared.verb.Verb.TheVariants as V
 use Rattle.ild_path_within.proofs.Splitting.{parts_are_set}
-use Rattle.ild_path_within.specs.Within.{with_part}
 use Rattle.ild_run_links.specs.Links.{link_to, relinked}
 use Rattle.ild_run_links.specs.inside.Faults.{path_fault as tree_fault}
 use Rattle.ild_run_links.specs.declared.fault.TreeFault.{TreeFault}
@@ -43,7 +42,6 @@ use Rattle.ild_schema.specs.Slots.{plainly}
 use Rattle.ild_schema.specs.Value.{Value, null}
 use Rattle.ild_schema.specs.declared.number.TypeNo.{TypeNo}
 use Rattle.ild_schema.specs.declared.row.Row.{Row}
-use Rattle.ild_script.specs.declared.reply.No.TheVariants as N
 use Rattle.ild_typed.specs.At.{InSlot, at}
 use Rattle.ild_typed.specs.Schema.{IsSchema}
 use Rattle.ild_typed.specs.Stands.{Stands, bare}

@@ -1,21 +1,18 @@
 -- Where a path stops in a tree, as the trees over a store answer it.
-use Rattle.std.proofs.Common.{◌≡◌, ℕ, zero, suc, ◌+◌, ◌^◌, ◌<◌, ◌≤◌, min, Bool, true, false, true≢false, cond, List, length, drop, Option, Some, None, Result, Ok, Err, refl, sym, ap, ◌∙◌, subst, arith}
-use Rattle.std.proofs.lemmas.Option.{none-some}
+use Rattle.std.proofs.Common.{◌≡◌, ℕ, zero, suc, ◌+◌, ◌≤◌, true, false, true≢false, cond, List, length, drop, Some, Result, Ok, Err, refl, sym, ap, ◌∙◌, subst, arith}
 use Rattle.std.proofs.Math.Logic.{∥∥₁_elim}
 use Rattle.std.proofs.Props.{props}
 use Rattle.std.specs.List.{slice_get}
 use Rattle.ild_data.specs.Spell.{id_of}
 use Rattle.ild_data.specs.declared.id.BlockId.{BlockId}
-use Rattle.ild_edges.specs.Count.{Rose, bumped}
+use Rattle.ild_edges.specs.Count.{Rose}
 use Rattle.ild_edges.specs.Gained.{OnlyReads}
 use Rattle.ild_edges.specs.Store.{Moment, Later, StaysBelow, asked_over, block_at}
 use Rattle.ild_edges.specs.Told.{BothTold}
 use Rattle.ild_edges.proofs.Later.{Later-refl, Later-trans}
 use Rattle.ild_edges.proofs.Reading.{from_told}
-use Rattle.ild_links.specs.Stops.{EndsThere, IsLost, IsPlaced, StopAnswer, Stops, link_of}
-use Rattle.ild_links.specs.Trees.{HasNone, IsThere, Stands, Tree}
-use Rattle.ild_links.specs.declared.error.TreeErr.{TreeErr}
-use Rattle.ild_links.specs.declared.error.TreeErr.TheVariants as E
+use Rattle.ild_links.specs.Stops.{IsPlaced, StopAnswer, Stops}
+use Rattle.ild_links.specs.Trees.{IsThere, Stands, Tree}
 use Rattle.ild_links.specs.declared.hop.Stop.{Stop}
 use Rattle.ild_open.specs.Opened.{HasOpened, Opens}
 use Rattle.ild_open_parts.specs.declared.fault.OpenFault.{OpenFault}

@@ -1,9 +1,8 @@
 -- Typed links to blocks, as a view shows them.
-use Rattle.std.proofs.Common.{◌≡◌, ℕ, zero, suc, ◌==◌, Bool, true, false, cond, List, drop, length, Option, Some, None, option_map, IsSome, refl, sym, ap, ◌∙◌, subst}
+use Rattle.std.proofs.Common.{◌≡◌, ℕ, zero, suc, Bool, true, false, cond, List, drop, length, Option, Some, None, option_map, refl, sym, ap, ◌∙◌, subst}
 use Rattle.std.specs.Prelude.{IsSomeAnd, option_and_then}
 use Rattle.std.proofs.lemmas.Option.{same_Some, none-some}
 use Rattle.ild_cbor.specs.Scalar as C
-use Rattle.ild_data.specs.Data as T
 use Rattle.ild_data.specs.Data.{Data}
 use Rattle.ild_data.specs.Spell.{cid_of}
 use Rattle.ild_run_links.specs.Links.{leads_to, link_in, target_of}
@@ -17,7 +16,7 @@ use Rattle.ild_schema.specs.declared.number.TypeNo.{TypeNo}
 use Rattle.ild_schema.specs.declared.row.Row.{Row}
 use Rattle.ild_typed.proofs.NodeElements.{block-link, link-read}
 use Rattle.ild_typed.specs.Fits.{Fits, FitsPast, FormFits, ValueFits}
-use Rattle.ild_typed.specs.NodeReading.{id_in, links_block}
+use Rattle.ild_typed.specs.NodeReading.{links_block}
 use Rattle.ild_view.specs.Itself.{itself}
 use Rattle.ild_view.specs.View.{IsView, slot_of, table_of}
 use Rattle.ild_view.specs.declared.view.View.{View}

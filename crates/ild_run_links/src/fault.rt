@@ -1,5 +1,6 @@
 //! Why one tree isn't read or written.
 ghost use Rattle.std.specs.Prelude.{◌≡◌, ◌≤◌};
+ghost use Rattle.ild_node_slots.specs.Faults.{IsReadFault};
 ghost use Rattle.ild_run_links.specs.inside.Faults.{AreClashBytes, edit_fault, hamt_fault, lacks_after, open_fault, path_fault, tree_err};
 ghost use Rattle.ild_run_links.specs.declared.fault.TreeFault.TheVariants.{Memory};
 
@@ -38,16 +39,15 @@ impl<T: Drop> From<AllocFailed<T>> for TreeFault {
 
 /// The fault of a way through HAMTs.
 pub(crate) fn of_hamt(fault: &HamtFault) -> TreeFault
+    requires { IsReadFault fault.now }
     ensures { result ≡ hamt_fault fault.now }
 {
     match fault {
         HamtFault::Block { .. } => TreeFault::Block,
         HamtFault::Store => TreeFault::Store,
-        HamtFault::Exhausted
-        | HamtFault::Clash { .. }
-        | HamtFault::Size
-        | HamtFault::NoKey
-        | HamtFault::Memory => TreeFault::Memory,
+        HamtFault::Memory => TreeFault::Memory,
+        HamtFault::Exhausted | HamtFault::Clash { .. } | HamtFault::Size | HamtFault::NoKey =>
+            unreachable!(),
     }
 }
 

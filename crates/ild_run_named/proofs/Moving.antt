@@ -10,7 +10,8 @@ use Rattle.ild_edges.proofs.Reading.{from_told}
 use Rattle.ild_edges.specs.Gained.{AreHeld, CameFrom, FromBlocks, OnlyReads}
 use Rattle.ild_edges.specs.Store.{Moment, block_at}
 use Rattle.ild_edges.specs.Told.{BothTold, IfTold}
-use Rattle.ild_named_root.specs.Names.{AreDocData, Names, NamesData, new_blocks}
+use Rattle.ild_named_root.proofs.Rooting.{none_came, still_in_order}
+use Rattle.ild_named_root.specs.Names.{AreDocData, InOrder, Names, NamesData, new_blocks}
 use Rattle.ild_named_root.specs.declared.fault.NameFault.{NameFault}
 use Rattle.ild_named_root.specs.declared.fault.NameFault.TheVariants as N
 use Rattle.ild_open.specs.Opened.{HasOpened, Opens, StandsInBlock}
@@ -37,13 +38,6 @@ held_alone : (o : Option (List (List ℕ))) (kept id : List ℕ) → id_of kept 
 held_alone None kept id is held = tt
 held_alone (Some blocks) kept id is held = (subst (λ (i : List ℕ). block_at blocks i ≡ Some kept) (sym is) held, tt)
 
-none_came : (bs : List (List ℕ)) (a c : Option (List (List ℕ))) → c ≡ a → BothTold a c (CameFrom bs)
-none_came bs a c same = subst (λ (o : Option (List (List ℕ))). BothTold a o (CameFrom bs)) (sym same) (by a)
-  where
-    by : (a : Option (List (List ℕ))) → BothTold a a (CameFrom bs)
-    by None = tt
-    by (Some x) = λ id b held. inl held
-
 abbrev pub answer_of : Result BlockId NameFault → Result BlockId MigrateFault
 answer_of (Ok id) = Ok id
 answer_of (Err e) = Err (name_fault e)
@@ -68,7 +62,11 @@ module _ (rows : List Row) (schema : IsSchema rows) (h : List ℕ → List ℕ) 
   pub unopened : {A : Type 0} (Done : A → Type 0) (e : OpenFault) → Opens Done h rows ty root m (Err e) k → Migrates h rows ty root name source m (Err (migrate_fault e)) k
   unopened Done e x = record {
     answer = unopened_answer Done e x;
-    value = λ held v told st. record { answer = unopened_value Done e x held v told st; adds = none_came (new_blocks name source st.tree) m.blocks k.blocks x.only.blocks };
+    value = λ held v told st. record {
+      answer = unopened_value Done e x held v told st;
+      adds = none_came (new_blocks name source st.tree) m.blocks k.blocks x.only.blocks;
+      order = still_in_order name source st.tree m.blocks k.blocks x.only.blocks;
+    };
     later = x.only.later;
     puts = few_puts x.only;
   }
@@ -139,7 +137,11 @@ module _ (rows : List Row) (schema : IsSchema rows) (h : List ℕ → List ℕ) 
       answer = moved_answer r bytes x;
       value = λ held v told st.
           let y = x.each st.tree (doc_data held v told st) in
-          record { answer = moved_value r held v told st bytes y; adds = subst (λ (o : Option (List (List ℕ))). BothTold o n.blocks (CameFrom (new_blocks name source st.tree))) reads.blocks y.adds };
+          record {
+            answer = moved_value r held v told st bytes y;
+            adds = subst (λ (o : Option (List (List ℕ))). BothTold o n.blocks (CameFrom (new_blocks name source st.tree))) reads.blocks y.adds;
+            order = subst (λ (o : Option (List (List ℕ))). BothTold o n.blocks (InOrder name source st.tree)) reads.blocks y.order;
+          };
       later = Later-trans m k n reads.later x.later;
       puts = let same = reads.puts in let most = x.puts in omega (arith, same, most);
     }

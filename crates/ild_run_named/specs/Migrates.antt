@@ -12,8 +12,9 @@ use Rattle.ild_edges.specs.Collide.{Collide}
 use Rattle.ild_edges.specs.Count.{Rose}
 use Rattle.ild_edges.specs.Gained.{AddsOnly, FromBlocks, Holds, OnlyReads}
 use Rattle.ild_edges.specs.Store.{Moment, Later, block_at}
+use Rattle.ild_edges.specs.Told.{BothTold}
 use Rattle.ild_named.specs.Named.{named, schema_block}
-use Rattle.ild_named_root.specs.Names.{HasRoom, Names, new_blocks, root_block}
+use Rattle.ild_named_root.specs.Names.{HasRoom, InOrder, Names, new_blocks, root_block}
 use Rattle.ild_named_root.specs.declared.fault.NameFault.{NameFault}
 use Rattle.ild_named_root.specs.declared.fault.NameFault.TheVariants as N
 use Rattle.ild_open.specs.Broken.{IsRefused}
@@ -65,6 +66,7 @@ module _ (h : List ℕ → List ℕ) (rows : List Row) (ty : TypeNo) (root name 
   pub record IsOfValue (m : Moment) (held : List (List ℕ)) (v : Value) (st : Stands bare (block_at held) h rows ty root v) (result : Result BlockId MigrateFault) (n : Moment) : Type 0 where
     pub answer : OfValue m held v st result n
     pub adds : AddsOnly m n (new_blocks name source st.tree)
+    pub order : BothTold m.blocks n.blocks (InOrder name source st.tree)
 
   -- ---- over every store
 

@@ -1,40 +1,16 @@
 //! A value is opened by what its root names, and shown.
-ghost use Rattle.std.specs.Prelude.{◌≡◌, ◌<◌, Some, None, length, IfOk, IfErr};
-ghost use Rattle.ild_json.specs.Printing.{json_text};
-ghost use Rattle.ild_json.specs.declared.error.PrintErr.{PrintErr};
-ghost use Rattle.ild_json.specs.declared.error.PrintErr.TheVariants.{Reserved};
-ghost use Rattle.ild_schema.specs.Slots.{plainly};
-ghost use Rattle.ild_schema.specs.ValueSeen.{value_of};
-ghost use Rattle.ild_typed.specs.Shown.{shown};
+ghost use Rattle.std.specs.Prelude.{◌≡◌, ◌<◌, length};
 ghost use Rattle.ild_run_named.specs.Shows.{Shows};
 ghost use Rattle.ild_run_named.specs.inside.Steps.{ValueShows, open_fault};
 
 use crate::typing::type_of;
 use ild_data::{BlockId, KeyHash, Txt};
 use ild_edges::Store;
-use ild_json::{PrintErr, print};
+use ild_json::PrintErr;
 use ild_open_named::{OpenFault, describe, open_named};
-use ild_run_show::ShowFault;
-use ild_schema::{Accepted, Slot, TypeNo, Val};
-use ild_value_shown::shown;
+use ild_run_show::{ShowFault, shown_text};
+use ild_schema::{Accepted, TypeNo};
 use std::alloc::Global;
-
-// The JSON of a value of a type, in its shown form.
-fn text_of(alloc: Global, acc: &Accepted, ty: TypeNo, val: &Val) -> Result<Txt, PrintErr>
-    requires { ty.0 < length acc.now }
-    ensures ok { IfOk result (λ text. json_text (shown acc.now (plainly ty) (value_of val.now)) ≡ Some text) }
-    ensures err { IfErr result (λ err. err ≡ PrintErr.Reserved → json_text (shown acc.now (plainly ty) (value_of val.now)) ≡ None) }
-{
-    let slot = Slot {
-        ty,
-        nullable: false,
-    };
-    let tree = match shown(alloc, acc, slot, val) {
-        Ok(tree) => tree,
-        Err(_) => return Err(PrintErr::Memory),
-    };
-    print(alloc, &tree)
-}
 
 fn open_fault(fault: OpenFault) -> ShowFault
     ensures { result ≡ open_fault fault }
@@ -62,7 +38,7 @@ fn show_value<K: Store, H: KeyHash>(
         Ok(opened) => opened,
         Err(fault) => return Err(open_fault(fault)),
     };
-    match text_of(alloc, acc, ty, &opened.1) {
+    match shown_text(alloc, acc, ty, &opened.1) {
         Ok(text) => Ok(text),
         Err(PrintErr::Reserved) => Err(ShowFault::Reserved),
         Err(PrintErr::Memory) => Err(ShowFault::Memory),

@@ -10,7 +10,7 @@ use Rattle.ild_edges.specs.Store.{Moment, block_at}
 use Rattle.ild_edges.specs.Told.{IfTold}
 use Rattle.ild_inclusion.specs.Says.{BlocksSay}
 use Rattle.ild_inclusion.specs.declared.answer.Answer.{Answer}
-use Rattle.ild_inclusion_prove.specs.Fails.{FailsAlone}
+use Rattle.ild_path_enter.specs.Enters.{FailsOnly}
 use Rattle.ild_inclusion_prove.specs.Proves.{Proves, ProvesHeld}
 use Rattle.ild_node_slots.specs.declared.fault.HamtFault.{HamtFault}
 use Rattle.ild_node_slots.specs.declared.fault.HamtFault.TheVariants as H
@@ -30,7 +30,7 @@ use Rattle.ild_view_doc.specs.Block.{IsRootBlock}
 use Rattle.ild_view_doc.specs.Docs.{block_in, table_in, type_in}
 use Rattle.ild_view_doc.specs.declared.doc.Doc.{Doc}
 use Rattle.ild_run_prove.specs.Proved.{NotProved, Prints, ProveAnswer, ProvesPath}
-use Rattle.ild_run_prove.specs.inside.Faults.{IsMadeFault, made_fault, open_fault}
+use Rattle.ild_run_prove.specs.inside.Faults.{made_fault, open_fault}
 use Rattle.ild_run_prove.specs.declared.fault.ProveFault.{ProveFault}
 use Rattle.ild_run_prove.specs.declared.fault.ProveFault.TheVariants as F
 
@@ -112,12 +112,12 @@ module _ (h : List ℕ → List ℕ) (rows : List Row) (n : TypeNo) (id : List �
   pub failed : OnlyReads k j → ((held : List (List ℕ)) (v : Value) → m.blocks ≡ Some held → (st : Stands bare (block_at held) h rows n id v) → k.gets ≤ m.gets + length (blocks_of bare h rows n v st.tree))
       → (fault : HamtFault) → ((was : List (List ℕ)) (v : Value) → k.blocks ≡ Some was → block_at was (id_of (block_in d)) ≡ Some (block_in d)
       → Stands bare (block_at was) h (table_in d) (type_in d) (id_of (block_in d)) v → ProvesHeld h (table_in d) (type_in d) (id_of (block_in d)) v path k (Err fault) j)
-      → FailsAlone {A = List (List ℕ)} k (Err fault) j → ((f : Value) (root : IsRootBlock (table_in d) (type_in d) (block_in d) f)
+      → FailsOnly {A = List (List ℕ)} k (Err fault) j → ((f : Value) (root : IsRootBlock (table_in d) (type_in d) (block_in d) f)
       → RefusesBroken {A = List (List ℕ)} h (table_in d) (id_of (block_in d)) 96 (plainly (type_in d)) root.tree k (Err fault) j) → ProvesPath h rows n id path m (Err (made_fault fault)) j
   failed y bound fault stands alone refuses = answered_so y bound (Err fault) stands (Err (made_fault fault)) (by fault stands alone refuses) where
     by : (fault : HamtFault) → ((was : List (List ℕ)) (v : Value) → k.blocks ≡ Some was → block_at was (id_of (block_in d)) ≡ Some (block_in d)
         → Stands bare (block_at was) h (table_in d) (type_in d) (id_of (block_in d)) v → ProvesHeld h (table_in d) (type_in d) (id_of (block_in d)) v path k (Err fault) j)
-        → FailsAlone {A = List (List ℕ)} k (Err fault) j → ((f : Value) (root : IsRootBlock (table_in d) (type_in d) (block_in d) f)
+        → FailsOnly {A = List (List ℕ)} k (Err fault) j → ((f : Value) (root : IsRootBlock (table_in d) (type_in d) (block_in d) f)
         → RefusesBroken {A = List (List ℕ)} h (table_in d) (id_of (block_in d)) 96 (plainly (type_in d)) root.tree k (Err fault) j) → ProveAnswer h rows n id path m (Err (made_fault fault)) j
     by (H.Block at why) stands alone refuses = not_proved at why stands refuses
     by H.Store stands alone refuses = rose_later m.faults k.faults j.faults x.later.faults alone
@@ -126,16 +126,6 @@ module _ (h : List ℕ → List ℕ) (rows : List Row) (n : TypeNo) (id : List �
     by (H.Clash at kept new) stands alone refuses = absurd alone
     by H.Size stands alone refuses = absurd alone
     by H.NoKey stands alone refuses = absurd alone
-
--- no other fault comes
-pub made_by : (k j : Moment) (fault : HamtFault) → FailsAlone {A = List (List ℕ)} k (Err fault) j → IsMadeFault fault
-made_by k j (H.Block at why) alone = tt
-made_by k j H.Store alone = tt
-made_by k j H.Memory alone = tt
-made_by k j H.Exhausted alone = absurd alone
-made_by k j (H.Clash at kept new) alone = absurd alone
-made_by k j H.Size alone = absurd alone
-made_by k j H.NoKey alone = absurd alone
 
 -- a root that wasn't opened
 pub unopened : (h : List ℕ → List ℕ) (rows : List Row) (n : TypeNo) (id : List ℕ) (path : List (List ℕ)) (m k : Moment) (fault : OpenFault) → Opens (HasOpened h rows n id k) h rows n id m (Err fault) k → ProvesPath h rows n id path m (Err (open_fault fault)) k

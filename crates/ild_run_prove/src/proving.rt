@@ -1,7 +1,8 @@
 //! A value is opened, and what stands at a path in it is proved.
 ghost use Rattle.std.specs.Prelude.{◌≡◌, ◌<◌, length};
+ghost use Rattle.ild_node_slots.specs.Faults.{IsReadFault};
 ghost use Rattle.ild_run_prove.specs.Proved.{ProvesPath};
-ghost use Rattle.ild_run_prove.specs.inside.Faults.{IsMadeFault, made_fault, open_fault};
+ghost use Rattle.ild_run_prove.specs.inside.Faults.{made_fault, open_fault};
 
 use crate::ProveFault;
 use crate::printing::json_of;
@@ -26,7 +27,7 @@ fn open_fault(fault: &OpenFault) -> ProveFault
 
 // The fault of a proof that isn't made.
 fn made_fault(fault: &HamtFault) -> ProveFault
-    requires { IsMadeFault fault.now }
+    requires { IsReadFault fault.now }
     ensures { result ≡ made_fault fault.now }
 {
     match fault {

@@ -5,4 +5,4 @@ mod fault;
 mod showing;
 
 pub use fault::ShowFault;
-pub use showing::show;
+pub use showing::{show, shown_text};

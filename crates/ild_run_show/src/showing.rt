@@ -18,7 +18,7 @@ use ild_value_shown::shown;
 use std::alloc::Global;
 
 /// The JSON of a value of a type, in its shown form.
-fn text_of(alloc: Global, acc: &Accepted, ty: TypeNo, val: &Val) -> Result<Txt, PrintErr>
+pub fn shown_text(alloc: Global, acc: &Accepted, ty: TypeNo, val: &Val) -> Result<Txt, PrintErr>
     requires { ty.0 < length acc.now }
     ensures ok { IfOk result (λ text. json_text (shown acc.now (plainly ty) (value_of val.now)) ≡ Some text) }
     ensures err { IfErr result (λ err. err ≡ PrintErr.Reserved → json_text (shown acc.now (plainly ty) (value_of val.now)) ≡ None) }
@@ -53,7 +53,7 @@ pub fn show<K: Store, H: KeyHash>(
         Err(OpenFault::Store) => return Err(ShowFault::Store),
         Err(OpenFault::Memory) => return Err(ShowFault::Memory),
     };
-    match text_of(alloc, acc, ty, &opened.1) {
+    match shown_text(alloc, acc, ty, &opened.1) {
         Ok(text) => Ok(text),
         Err(PrintErr::Reserved) => Err(ShowFault::Reserved),
         Err(PrintErr::Memory) => Err(ShowFault::Memory),

@@ -26,6 +26,10 @@ AreAnswered Passes s m [] replies n t = (replies ≡ []) × (n ≡ m) × (t ≡ 
 AreAnswered {S} Passes s m (l ∷ ls) replies n t =
     (reply : Option Reply) × (u : S) × (k : Moment) × (more : List Reply) × IsAnswered m l reply k × Passes s m l reply k u × (replies ≡ cons_option reply more) × AreAnswered Passes u k ls more n t
 
+-- a session that answers lines over each store
+abbrev pub OverEach : {S : Type 0} → S → Moment → Type 0
+OverEach s m = Unit {0}
+
 -- ---- from a stage
 
 -- a line leads to a stage at which the session stands then

@@ -60,6 +60,8 @@ fn answer_and_write<S: Session, K: Store, W: Sink>(
     store: &mut K,
     out: &mut W,
 ) -> Result<bool, Cut>
+    requires { S.ready session.old (K.moment store.old) }
+    ensures stays { S.ready session.new (K.moment store.new) }
     ensures done { IfOk result (λ refused. AnswersLine (S.stands session.old) (S.stands session.new) S.passes session.old session.new (K.moment store.old)
         line.now (K.moment store.new) (W.output out.old).written (W.output out.new).written refused) }
     ensures part { OnErr result (CutsLine (S.stands session.old) (S.stands session.new) S.passes session.old session.new (K.moment store.old)
@@ -85,6 +87,8 @@ pub fn answer_all<S: Session, K: Store, W: Sink>(
     store: &mut K,
     out: &mut W,
 ) -> Result<bool, Cut>
+    requires { S.ready session.old (K.moment store.old) }
+    ensures stays { S.ready session.new (K.moment store.new) }
     ensures done { IfOk result (λ refused. AnswersLines (S.stands session.old) (S.stands session.new) S.passes session.old session.new (K.moment store.old)
         (lines_of script.now) (K.moment store.new) (W.output out.old).written (W.output out.new).written refused) }
     ensures part { OnErr result (CutsLines (S.stands session.old) (S.stands session.new) S.passes session.old session.new (K.moment store.old)

@@ -23,6 +23,9 @@ pub trait Session {
     /// That stays.
     ghost subject: { Self → Subject };
 
+    /// Over which stores, at a moment, it answers lines.
+    ghost ready: { Self → Moment → Type 0 };
+
     /// Of which meaning of lines, and at which stage, it stands, over a store at a moment.
     ghost stands: { Self → Moment → Meaning Value → Stage Value → Type 0 };
 
@@ -34,6 +37,9 @@ pub trait Session {
 
     /// Answers a line over a store, and goes on to the stage behind it. The empty line has no reply.
     fn answer<K: Store>(&mut self, alloc: Global, line: &[u8], store: &mut K) -> Option<Reply>
+        requires { ready self.old (K.moment store.old) }
+        ensures stays { ready self.new (K.moment store.new) }
+
         // Over each store, also one that does not tell what it holds.
         ensures answered { IsAnswered (K.moment store.old) line.now result (K.moment store.new) }
         ensures passed { passes self.old (K.moment store.old) line.now result (K.moment store.new) self.new }

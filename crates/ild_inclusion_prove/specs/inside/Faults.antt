@@ -2,8 +2,8 @@
 use Rattle.std.specs.Prelude.{Bool, Result, Ok, Err}
 use Rattle.ild_data.specs.declared.tree.Tree.{Tree}
 use Rattle.ild_data.specs.declared.tree.Tree.TheVariants as T
+use Rattle.ild_node_slots.specs.Faults.{IsReadFault}
 use Rattle.ild_node_slots.specs.declared.fault.HamtFault.{HamtFault}
-use Rattle.ild_node_slots.specs.declared.fault.HamtFault.TheVariants as F
 use Rattle.ild_run_follow.specs.declared.fault.ReadFault.{ReadFault}
 use Rattle.ild_run_follow.specs.inside.Faults.{hamt_fault}
 use Rattle.ild_view.specs.declared.view.View.{View}
@@ -17,10 +17,7 @@ abbrev pub viewed_as : Result View HamtFault → Result View ReadFault
 viewed_as (Ok v) = Ok v
 viewed_as (Err e) = Err (hamt_fault e)
 
--- there is no other fault
+-- a fault is one of reading
 abbrev pub IsAlone : {A : Type 0} → Result A HamtFault → Type 0
 IsAlone (Ok x) = Unit {0}
-IsAlone (Err (F.Block id why)) = Unit {0}
-IsAlone (Err F.Store) = Unit {0}
-IsAlone (Err F.Memory) = Unit {0}
-IsAlone (Err e) = ⊥
+IsAlone (Err e) = IsReadFault e

@@ -11,13 +11,6 @@ open_fault (O.Block id why) = F.Block id why
 open_fault O.Store = F.Store
 open_fault O.Memory = F.Memory
 
--- of the faults of HAMTs no other than these come
-abbrev pub IsMadeFault : HamtFault → Type 0
-IsMadeFault (H.Block id why) = Unit {0}
-IsMadeFault H.Store = Unit {0}
-IsMadeFault H.Memory = Unit {0}
-IsMadeFault e = ⊥
-
 abbrev pub made_fault : HamtFault → ProveFault
 made_fault (H.Block id why) = F.Block id why
 made_fault H.Store = F.Store

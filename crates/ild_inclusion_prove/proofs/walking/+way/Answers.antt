@@ -12,7 +12,8 @@ use Rattle.ild_view.specs.View.{slot_of, table_of}
 use Rattle.ild_inclusion_prove.proofs.Along.{adds_here, adds_in, adds_nowhere}
 use Rattle.ild_inclusion_prove.proofs.Entering.{adds_absent, adds_on}
 use Rattle.ild_inclusion_prove.proofs.Halts.{room_kept}
-use Rattle.ild_inclusion_prove.proofs.Reading.{descent_alone, enter_wanting, entered, follow_here, follow_in, follow_none, follow_refused, is_root, same_key, walked}
+use Rattle.ild_hamt.proofs.Failing.{descent_reads}
+use Rattle.ild_inclusion_prove.proofs.Reading.{enter_wanting, entered, follow_here, follow_in, follow_none, follow_refused, is_root, same_key, walked}
 use Rattle.ild_inclusion_prove.specs.inside.Faults.{told_as}
 use Rattle.ild_inclusion_prove.proofs.walking.+way.Goals as goal
 
@@ -65,10 +66,7 @@ follow-returns-in-None-clause-tells g t c =
 -- ---- a HAMT
 
 pub enter-returns-in-Err-clause-alone : goal.enter-returns-in-Err-clause-alone
-enter-returns-in-Err-clause-alone g t c =
-    let schema = subst IsSchema c.schema.ensures (record { table = c.recall.ensures.table; accepted = c.recall.ensures.accepted }) in
-    let m = g.K.Store.moment c.args.store.now in
-    descent_alone g.H.KeyHash.hash_of c.args.root c.as_str.result.now m (g.K.Store.moment c.descend.new.store) c.in-Err.fault (has_slots g.H.KeyHash.hash_of c.args.room c.requires.low c.args.hamt schema m c.args.root c.requires.root) c.in-Err.ensures
+enter-returns-in-Err-clause-alone g t c = descent_reads g.H.KeyHash.hash_of c.args.root c.as_str.result.now (g.K.Store.moment c.args.store.now) (g.K.Store.moment c.descend.new.store) c.in-Err.fault c.in-Err.ensures
 
 pub enter-returns-in-Err-clause-tells : goal.enter-returns-in-Err-clause-tells
 enter-returns-in-Err-clause-tells g t c =

@@ -4,12 +4,17 @@ use Rattle.std.proofs.Math.Logic.{∥∥₁_elim, ∥∥₁_map}
 use Rattle.std.proofs.Props.{props}
 use Rattle.std.proofs.lemmas.Bool.{false≢true}
 use Rattle.ild_open_parts.specs.Hamts.{ListsRows}
-use Rattle.ild_open_parts.proofs.Hamting.{rows_listed, rows_stop}
+use Rattle.ild_open_parts.proofs.Hamting.{rows_listed, rows_stop, walk_reads}
 use Rattle.ild_open_parts.proofs.Limited.{rows_spelled}
 use Rattle.ild_open_parts.proofs.hamt.hamt_rows.Goals as goal
 
 pub unreachable-requires : goal.unreachable-requires
 unreachable-requires g c = ∥∥₁_elim c.requires.root (hlevel props) (λ x. false≢true (c.in-Err.ensures.only x.slots x.tree x.stands x.is).0)
+
+pub walk_fault-requires : goal.walk_fault-requires
+walk_fault-requires g c = walk_reads g.H.KeyHash.hash_of c.args.shape _ _ c.in-Err-walk.fault (∥∥₁_map c.args.root.now.stands (λ some.
+    let x = c.in-Ok.ensures.found some.of some.spells in
+    (x.0, (c.in-Err-walk.ensures c.args.shape x.0 x.2).answer)))
 
 pub returns-in-Ok-walk-clause-rows : goal.returns-in-Ok-walk-clause-rows
 returns-in-Ok-walk-clause-rows g c = λ rows t stands.

@@ -18,6 +18,7 @@ use Rattle.ild_path_place.specs.declared.place.End.TheVariants.{AtKey}
 use Rattle.ild_path_rules.specs.declared.delete.Refusal.{Refusal}
 use Rattle.std.specs.Prelude.{IfOk}
 use Rattle.ild_path_enter.specs.declared.lookup.Entered.{Entered}
+use Rattle.ild_path_enter.proofs.Failing.{fails_read}
 use Rattle.ild_path_place.specs.Rooted.{FailsOnly}
 use Rattle.ild_path_place.specs.inside.Slots.{IsPartSlot}
 use Rattle.ild_path_place.proofs.Failing.{path_fails, refused_fails}
@@ -27,33 +28,33 @@ use Rattle.ild_path_place.proofs.Refusing.{refused_at, refuses_at, site_at}
 use Rattle.ild_path_place.specs.Refuses.{RefusesAt}
 use Rattle.ild_path_place.proofs.ending.end_at_key.Goals as goal
 
-pub returns-in_err-trail-clause-reads : goal.returns-in_err-trail-clause-reads
-returns-in_err-trail-clause-reads g c = only_viewed c.args.holder.now (g.K.Store.moment c.args.store.now) (g.K.Store.moment c.enter.new.store) c.in_err-trail.ensures.reads
-
 pub returns-in-Err-clause-reads : goal.returns-in-Err-clause-reads
-returns-in-Err-clause-reads g c = only_viewed c.args.holder.now (g.K.Store.moment c.args.store.now) (g.K.Store.moment c.enter.new.store) c.in_ok-trail.ensures.reads
+returns-in-Err-clause-reads g c = only_viewed c.args.holder.now (g.K.Store.moment c.args.store.now) (g.K.Store.moment c.enter.new.store) c.in-Err.ensures.reads
+
+pub returns-in-Err-slot_at_key-clause-reads : goal.returns-in-Err-slot_at_key-clause-reads
+returns-in-Err-slot_at_key-clause-reads g c = only_viewed c.args.holder.now (g.K.Store.moment c.args.store.now) (g.K.Store.moment c.enter.new.store) c.in-Ok.ensures.reads
 
 pub returns-in_err-key_fits-clause-reads : goal.returns-in_err-key_fits-clause-reads
-returns-in_err-key_fits-clause-reads g c = only_viewed c.args.holder.now (g.K.Store.moment c.args.store.now) (g.K.Store.moment c.enter.new.store) c.in_ok-trail.ensures.reads
+returns-in_err-key_fits-clause-reads g c = only_viewed c.args.holder.now (g.K.Store.moment c.args.store.now) (g.K.Store.moment c.enter.new.store) c.in-Ok.ensures.reads
 
 pub returns-clause-reads : goal.returns-clause-reads
-returns-clause-reads g c = only_viewed c.args.holder.now (g.K.Store.moment c.args.store.now) (g.K.Store.moment c.enter.new.store) c.in_ok-trail.ensures.reads
+returns-clause-reads g c = only_viewed c.args.holder.now (g.K.Store.moment c.args.store.now) (g.K.Store.moment c.enter.new.store) c.in-Ok.ensures.reads
 
-pub returns-in_err-trail-clause-told : goal.returns-in_err-trail-clause-told
-returns-in_err-trail-clause-told g c = λ was limit q told x.
+pub returns-in-Err-clause-told : goal.returns-in-Err-clause-told
+returns-in-Err-clause-told g c = λ was limit q told x.
     let h = g.H.KeyHash.hash_of in
     let rows = c.args.acc.now in
     let view = c.args.holder.now in
     let is = c.in-Some.ensures in
     let ready = can h rows was limit q c.args.front c.args.room view x c.in-Some.slot is c.saturating_sub-less.result c.saturating_sub-less.ensures in
-    let e = c.in_err-trail.ensures.trie _ was (slot_of view) x.tree x.ps _ x.stands told ready in
-    let r = err_from_is_err_and c.from_residual.result c.from_residual.ensures.1 in
-    subst (λ k. EndsKey h rows was limit q c.args.front c.args.room view x k c.args.k c.args.verb (g.K.Store.moment c.args.store.now) c.from_residual.result (g.K.Store.moment c.enter.new.store)) c.as_str.ensures.same
-    (rw (r.1, r.2) (ends_wrong h rows was limit q c.args.front c.args.room view x c.in-Some.slot is c.saturating_sub-less.result c.saturating_sub-less.ensures c.as_str.result.now (g.K.Store.moment c.args.store.now) (g.K.Store.moment c.enter.new.store) e.gets
-    c.args.k c.args.verb c.in_err-trail.field-0.0 e.answer))
+    let e = c.in-Err.ensures.trie _ was (slot_of view) x.tree x.ps _ x.stands told ready in
+    subst (λ k. EndsKey h rows was limit q c.args.front c.args.room view x k c.args.k c.args.verb (g.K.Store.moment c.args.store.now) (Err c.of_hamt.result) (g.K.Store.moment c.enter.new.store)) c.as_str-key.ensures.same
+    (subst (λ (z : PathFault). EndsKey h rows was limit q c.args.front c.args.room view x c.as_str-key.result.now c.args.k c.args.verb (g.K.Store.moment c.args.store.now) (Err z) (g.K.Store.moment c.enter.new.store)) (sym c.of_hamt.ensures)
+    (ends_wrong h rows was limit q c.args.front c.args.room view x c.in-Some.slot is c.saturating_sub-less.result c.saturating_sub-less.ensures c.as_str-key.result.now (g.K.Store.moment c.args.store.now) (g.K.Store.moment c.enter.new.store) e.gets
+    c.args.k c.args.verb c.in-Err.fault e.answer))
 
-pub returns-in-Err-clause-told : goal.returns-in-Err-clause-told
-returns-in-Err-clause-told g c = λ was limit q told x.
+pub returns-in-Err-slot_at_key-clause-told : goal.returns-in-Err-slot_at_key-clause-told
+returns-in-Err-slot_at_key-clause-told g c = λ was limit q told x.
     let h = g.H.KeyHash.hash_of in
     let rows = c.args.acc.now in
     let view = c.args.holder.now in
@@ -61,13 +62,13 @@ returns-in-Err-clause-told g c = λ was limit q told x.
     let n = g.K.Store.moment c.enter.new.store in
     let is = c.in-Some.ensures in
     let ready = can h rows was limit q c.args.front c.args.room view x c.in-Some.slot is c.saturating_sub-less.result c.saturating_sub-less.ensures in
-    let e = c.in_ok-trail.ensures.trie _ was (slot_of view) x.tree x.ps _ x.stands told ready in
-    let answer = slotted h rows was limit q c.args.front c.args.room view x c.in-Some.slot is c.saturating_sub-less.result c.saturating_sub-less.ensures c.as_str.result.now c.in_ok-trail.field-0.entry e.answer.value c.is_some-there.result c.is_some-there.ensures c.args.verb
+    let e = c.in-Ok.ensures.trie _ was (slot_of view) x.tree x.ps _ x.stands told ready in
+    let answer = slotted h rows was limit q c.args.front c.args.room view x c.in-Some.slot is c.saturating_sub-less.result c.saturating_sub-less.ensures c.as_str-key.result.now c.in-Ok.entered.entry e.answer.value c.is_some-there.result c.is_some-there.ensures c.args.verb
     c.slot_at_key.result c.slot_at_key.ensures in
-    let own = subst (λ (r : Result Slot Refusal). SlotAnswer rows (slot_of view, map x.ps) c.as_str.result.now c.args.verb r) c.in-Err.is answer in
-    subst (λ i. EndsKey h rows was limit q c.args.front c.args.room view x i c.args.k c.args.verb m (Err c.refused.result) n) c.as_str.ensures.same
-    (subst (λ (z : PathFault). EndsKey h rows was limit q c.args.front c.args.room view x c.as_str.result.now c.args.k c.args.verb m (Err z) n) (sym c.refused.ensures)
-    (ends_refused h rows was limit q c.args.front c.args.room view x c.in-Some.slot is c.saturating_sub-less.result c.saturating_sub-less.ensures c.as_str.result.now m n e.gets c.args.k c.args.verb c.in-Err.refusal own))
+    let own = subst (λ (r : Result Slot Refusal). SlotAnswer rows (slot_of view, map x.ps) c.as_str-key.result.now c.args.verb r) c.in-Err-slot_at_key.is answer in
+    subst (λ i. EndsKey h rows was limit q c.args.front c.args.room view x i c.args.k c.args.verb m (Err c.refused.result) n) c.as_str-key.ensures.same
+    (subst (λ (z : PathFault). EndsKey h rows was limit q c.args.front c.args.room view x c.as_str-key.result.now c.args.k c.args.verb m (Err z) n) (sym c.refused.ensures)
+    (ends_refused h rows was limit q c.args.front c.args.room view x c.in-Some.slot is c.saturating_sub-less.result c.saturating_sub-less.ensures c.as_str-key.result.now m n e.gets c.args.k c.args.verb c.in-Err-slot_at_key.refusal own))
 
 pub returns-in_err-key_fits-clause-told : goal.returns-in_err-key_fits-clause-told
 returns-in_err-key_fits-clause-told g c = λ was limit q told x.
@@ -78,10 +79,10 @@ returns-in_err-key_fits-clause-told g c = λ was limit q told x.
     let n = g.K.Store.moment c.enter.new.store in
     let is = c.in-Some.ensures in
     let ready = can h rows was limit q c.args.front c.args.room view x c.in-Some.slot is c.saturating_sub-less.result c.saturating_sub-less.ensures in
-    let e = c.in_ok-trail.ensures.trie _ was (slot_of view) x.tree x.ps _ x.stands told ready in
-    let r = err_from_is_err_and c.from_residual-in_err-key_fits.result c.from_residual-in_err-key_fits.ensures.1 in
-    subst (λ i. EndsKey h rows was limit q c.args.front c.args.room view x i c.args.k c.args.verb m c.from_residual-in_err-key_fits.result n) c.as_str.ensures.same
-    (rw (r.1, r.2) (ends_wrong h rows was limit q c.args.front c.args.room view x c.in-Some.slot is c.saturating_sub-less.result c.saturating_sub-less.ensures c.as_str.result.now m n e.gets c.args.k c.args.verb Memory tt))
+    let e = c.in-Ok.ensures.trie _ was (slot_of view) x.tree x.ps _ x.stands told ready in
+    let r = err_from_is_err_and c.from_residual.result c.from_residual.ensures.1 in
+    subst (λ i. EndsKey h rows was limit q c.args.front c.args.room view x i c.args.k c.args.verb m c.from_residual.result n) c.as_str-key.ensures.same
+    (rw (r.1, r.2) (ends_wrong h rows was limit q c.args.front c.args.room view x c.in-Some.slot is c.saturating_sub-less.result c.saturating_sub-less.ensures c.as_str-key.result.now m n e.gets c.args.k c.args.verb Memory tt))
 
 pub returns-clause-told : goal.returns-clause-told
 returns-clause-told g c = λ was limit q told x.
@@ -92,51 +93,56 @@ returns-clause-told g c = λ was limit q told x.
     let n = g.K.Store.moment c.enter.new.store in
     let is = c.in-Some.ensures in
     let ready = can h rows was limit q c.args.front c.args.room view x c.in-Some.slot is c.saturating_sub-less.result c.saturating_sub-less.ensures in
-    let e = c.in_ok-trail.ensures.trie _ was (slot_of view) x.tree x.ps _ x.stands told ready in
-    let answer = slotted h rows was limit q c.args.front c.args.room view x c.in-Some.slot is c.saturating_sub-less.result c.saturating_sub-less.ensures c.as_str.result.now c.in_ok-trail.field-0.entry e.answer.value c.is_some-there.result c.is_some-there.ensures c.args.verb
+    let e = c.in-Ok.ensures.trie _ was (slot_of view) x.tree x.ps _ x.stands told ready in
+    let answer = slotted h rows was limit q c.args.front c.args.room view x c.in-Some.slot is c.saturating_sub-less.result c.saturating_sub-less.ensures c.as_str-key.result.now c.in-Ok.entered.entry e.answer.value c.is_some-there.result c.is_some-there.ensures c.args.verb
     c.slot_at_key.result c.slot_at_key.ensures in
-    let utf8 = subst IsUtf8 (sym c.as_str.ensures.same) c.as_str.ensures.utf8 in
-    let fits = subst (λ i. FitsAs rows (form_of rows (slot_of view)) c.is_some-there.result i c.in_ok-key_fits.key_fits) (c.as_str-2.ensures.same ∙ sym c.as_str.ensures.same) c.in_ok-key_fits.ensures in
-    let key = fitted h rows was limit q c.args.front c.args.room view x c.in-Some.slot is c.saturating_sub-less.result c.saturating_sub-less.ensures c.as_str.result.now c.in_ok-trail.field-0.entry e.answer.value c.is_some-there.result c.is_some-there.ensures utf8
+    let utf8 = subst IsUtf8 (sym c.as_str-key.ensures.same) c.as_str-key.ensures.utf8 in
+    let fits = subst (λ i. FitsAs rows (form_of rows (slot_of view)) c.is_some-there.result i c.in_ok-key_fits.key_fits) (refl) c.in_ok-key_fits.ensures in
+    let key = fitted h rows was limit q c.args.front c.args.room view x c.in-Some.slot is c.saturating_sub-less.result c.saturating_sub-less.ensures c.as_str-key.result.now c.in-Ok.entered.entry e.answer.value c.is_some-there.result c.is_some-there.ensures utf8
     c.in_ok-key_fits.key_fits fits in
-    let found : Found = record { end = AtKey c.args.front c.in_ok-trail.field-0.trail c.in_ok-trail.field-0.entry; slot = c.in-Ok.slot; key_fits = c.in_ok-key_fits.key_fits; room = c.args.left; hole = c.args.hole } in
-    subst (λ i. EndsKey h rows was limit q c.args.front c.args.room view x i c.args.k c.args.verb m (Ok found) n) c.as_str.ensures.same
-    (ends_there h rows was limit q c.args.front c.args.room view x c.in-Some.slot is c.saturating_sub-less.result c.saturating_sub-less.ensures c.as_str.result.now m n e.gets
-    c.args.k c.args.verb found c.in_ok-trail.field-0.trail c.in_ok-trail.field-0.entry refl utf8 e.answer.found e.answer.value
-    (subst (λ (r : Result Slot Refusal). SlotAnswer rows (slot_of view, map x.ps) c.as_str.result.now c.args.verb r) c.in-Ok.is answer) key)
-
-pub returns-in_err-trail-clause-failed : goal.returns-in_err-trail-clause-failed
-returns-in_err-trail-clause-failed g c =
-    let r = err_from_is_err_and c.from_residual.result c.from_residual.ensures.1 in
-    rw (r.1, r.2) (path_fails Entered Found (g.K.Store.moment c.args.store.now) (g.K.Store.moment c.enter.new.store) c.in_err-trail.field-0.0 c.in_err-trail.ensures.failed)
+    let found : Found = record { end = AtKey c.args.front c.in-Ok.entered.trail c.in-Ok.entered.entry; slot = c.in-Ok-slot_at_key.slot; key_fits = c.in_ok-key_fits.key_fits; room = c.args.left; hole = c.args.hole } in
+    subst (λ i. EndsKey h rows was limit q c.args.front c.args.room view x i c.args.k c.args.verb m (Ok found) n) c.as_str-key.ensures.same
+    (ends_there h rows was limit q c.args.front c.args.room view x c.in-Some.slot is c.saturating_sub-less.result c.saturating_sub-less.ensures c.as_str-key.result.now m n e.gets
+    c.args.k c.args.verb found c.in-Ok.entered.trail c.in-Ok.entered.entry refl utf8 e.answer.found e.answer.value
+    (subst (λ (r : Result Slot Refusal). SlotAnswer rows (slot_of view, map x.ps) c.as_str-key.result.now c.args.verb r) c.in-Ok-slot_at_key.is answer) key)
 
 pub returns-in-Err-clause-failed : goal.returns-in-Err-clause-failed
 returns-in-Err-clause-failed g c =
+    subst (λ (z : PathFault). FailsOnly {A = Found} (g.K.Store.moment c.args.store.now) (Err z) (g.K.Store.moment c.enter.new.store)) (sym c.of_hamt.ensures)
+    (path_fails Entered Found (g.K.Store.moment c.args.store.now) (g.K.Store.moment c.enter.new.store) c.in-Err.fault c.in-Err.ensures.failed)
+
+pub returns-in-Err-slot_at_key-clause-failed : goal.returns-in-Err-slot_at_key-clause-failed
+returns-in-Err-slot_at_key-clause-failed g c =
     let m = g.K.Store.moment c.args.store.now in
     let n = g.K.Store.moment c.enter.new.store in
-    subst (λ (z : PathFault). FailsOnly {A = Found} m (Err z) n) (sym c.refused.ensures) (refused_fails Found m n c.args.k c.in-Err.refusal)
+    subst (λ (z : PathFault). FailsOnly {A = Found} m (Err z) n) (sym c.refused.ensures) (refused_fails Found m n c.args.k c.in-Err-slot_at_key.refusal)
 
 pub returns-clause-part : goal.returns-clause-part
 returns-clause-part g c =
     let rows = c.args.acc.now in
     let is = c.in-Some.ensures in
-    subst (λ (z : Result Slot Refusal). IfOk z (IsPartSlot rows)) c.in-Ok.is
+    subst (λ (z : Result Slot Refusal). IfOk z (IsPartSlot rows)) c.in-Ok-slot_at_key.is
     (key_fits rows c.in-Some.slot (is.1, is.2) c.is_some-there.result c.args.verb c.slot_at_key.result c.slot_at_key.ensures)
+
+pub of_hamt-requires : goal.of_hamt-requires
+of_hamt-requires g c = fails_read Entered (g.K.Store.moment c.args.store.now) (g.K.Store.moment c.enter.new.store) c.in-Err.fault c.in-Err.ensures.failed
 
 pub unreachable-requires : goal.unreachable-requires
 unreachable-requires g c =
     ∥∥₁_elim c.requires.hamt (hlevel props) (λ x. hamt_valued c.args.acc.now c.args.holder.now c.requires.table x.0 x.1 c.in_default.ensures)
 
-pub returns-in_err-trail-clause-refused : goal.returns-in_err-trail-clause-refused
-returns-in_err-trail-clause-refused g c =
-    let h = g.H.KeyHash.hash_of in
-    let rows = c.args.acc.now in
-    let r = err_from_is_err_and c.from_residual.result c.from_residual.ensures.1 in
-    rw (r.1, r.2) (λ z x. refuses_at Found h rows c.args.block.now c.as_str.result.now z (g.K.Store.moment c.args.store.now) (g.K.Store.moment c.enter.new.store) c.in_err-trail.field-0.0
-    (c.in_err-trail.ensures.refused z (site_at rows c.args.room c.args.holder.now c.args.block.now z x c.requires.table c.in-Some.slot c.saturating_sub-less.result c.in-Some.ensures c.saturating_sub-less.ensures)))
-
 pub returns-in-Err-clause-refused : goal.returns-in-Err-clause-refused
 returns-in-Err-clause-refused g c = λ z x.
+    let h = g.H.KeyHash.hash_of in
+    let rows = c.args.acc.now in
     let m = g.K.Store.moment c.args.store.now in
     let n = g.K.Store.moment c.enter.new.store in
-    subst (λ (e : PathFault). RefusesAt {A = Found} g.H.KeyHash.hash_of c.args.acc.now z m (Err e) n) (sym c.refused.ensures) (refused_at Found g.H.KeyHash.hash_of c.args.acc.now z m n c.args.k c.in-Err.refusal)
+    subst (λ (e : PathFault). RefusesAt {A = Found} h rows z m (Err e) n) (sym c.of_hamt.ensures)
+    (refuses_at Found h rows c.args.block.now c.as_str-key.result.now z m n c.in-Err.fault
+    (c.in-Err.ensures.refused z (site_at rows c.args.room c.args.holder.now c.args.block.now z x c.requires.table c.in-Some.slot c.saturating_sub-less.result c.in-Some.ensures c.saturating_sub-less.ensures)))
+
+pub returns-in-Err-slot_at_key-clause-refused : goal.returns-in-Err-slot_at_key-clause-refused
+returns-in-Err-slot_at_key-clause-refused g c = λ z x.
+    let m = g.K.Store.moment c.args.store.now in
+    let n = g.K.Store.moment c.enter.new.store in
+    subst (λ (e : PathFault). RefusesAt {A = Found} g.H.KeyHash.hash_of c.args.acc.now z m (Err e) n) (sym c.refused.ensures) (refused_at Found g.H.KeyHash.hash_of c.args.acc.now z m n c.args.k c.in-Err-slot_at_key.refusal)

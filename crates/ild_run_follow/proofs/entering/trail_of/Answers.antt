@@ -1,4 +1,5 @@
 use Rattle.std.proofs.Common.{Err, Result, sym, ap, ◌∙◌, subst}
+use Rattle.ild_hamt.proofs.Failing.{descent_reads}
 use Rattle.ild_hamt.specs.declared.trail.Trail.{Trail}
 use Rattle.ild_run_follow.specs.inside.Enters.{EntersTrie}
 use Rattle.ild_run_follow.specs.declared.fault.ReadFault.{ReadFault}
@@ -21,3 +22,6 @@ returns-in-Ok-clause-walks g c = λ p slots has. record { found = c.descend.resu
 
 pub returns-in-Err-clause-walks : goal.returns-in-Err-clause-walks
 returns-in-Err-clause-walks g c = λ p slots has. record { found = c.descend.result; is = sym (ap entered_as c.in-Err.is ∙ ap Err (sym c.of_hamt.ensures)); walk = c.descend.ensures p slots has }
+
+pub of_hamt-requires : goal.of_hamt-requires
+of_hamt-requires g c = descent_reads g.H.KeyHash.hash_of c.args.root c.args.key.now (g.K.Store.moment c.args.store.now) (g.K.Store.moment c.descend.new.store) c.in-Err.fault c.in-Err.ensures

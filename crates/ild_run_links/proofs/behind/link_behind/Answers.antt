@@ -1,6 +1,5 @@
-use Rattle.std.proofs.Common.{List, ap, sym, subst, ◌∙◌, ◌≡◌, Some, true, option_map}
+use Rattle.std.proofs.Common.{option_map}
 use Rattle.ild_path_inward.proofs.Inwarding.{can_go}
-use Rattle.ild_path_inward.specs.Levels.{CanGo}
 use Rattle.ild_run_links.proofs.Inner.{link_there}
 use Rattle.ild_run_links.specs.inside.Ends.{named}
 use Rattle.ild_view.specs.View.{table_of}

@@ -1,4 +1,4 @@
-use Rattle.std.proofs.Common.{IsSome, Some, None, sym, subst, ap, ◌∙◌}
+use Rattle.std.proofs.Common.{IsSome, sym, subst, ◌∙◌}
 use Rattle.std.proofs.lemmas.Option.{none-some, same_Some}
 use Rattle.std.specs.Prelude.{option_and_then}
 use Rattle.ild_path_place.specs.Parts.{end_in, hops_in}

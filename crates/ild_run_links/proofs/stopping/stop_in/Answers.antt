@@ -2,17 +2,17 @@ use Rattle.std.proofs.Common.{◌≡◌, ◌+◌, ◌-◌, ◌<◌, List, ℕ, [
 use Rattle.std.proofs.lemmas.List.{take_rest}
 use Rattle.ild_links.specs.Stops.{IsPlaced}
 use Rattle.ild_links.specs.declared.hop.Stop.{Stop}
+use Rattle.ild_path_enter.proofs.Failing.{fails_read}
 use Rattle.ild_path_inward.specs.Inwards.{GoesInward}
 use Rattle.ild_path_inward.specs.Levels.{CanGo}
+use Rattle.ild_path_inward.specs.declared.inward.Inward.{Inward}
 use Rattle.ild_path_place.proofs.Docked.{can_go}
 use Rattle.ild_run_links.proofs.Ending.{ends_err, ends_ok, fails_as, many_left}
 use Rattle.ild_run_links.specs.inside.Ends.{FailsOnly, StopsThere}
-use Rattle.ild_run_links.specs.inside.Faults.{hamt_fault}
 use Rattle.ild_schema.specs.Slots.{plainly}
 use Rattle.ild_schema.specs.declared.row.Row.{Row}
 use Rattle.ild_typed.specs.At.{InSlot}
 use Rattle.ild_typed.specs.Schema.{IsSchema}
-use Rattle.ild_view.specs.View.{table_of}
 use Rattle.ild_view_doc.specs.Docs.{block_in, table_in, type_in}
 use Rattle.ild_run_links.proofs.stopping.stop_in.Goals as goal
 
@@ -42,6 +42,9 @@ returns-in-Ok g c =
           subst (λ (xs : List (List ℕ)). StopsThere h rows p xs c.args.from m (Ok c.stop_inward.result) k) rest_is
           (ends_ok h rows was p st.tree root go rest c.args.from m k c.in-Ok.inward goes c.view-root.ensures.table c.stop_inward.result.0 c.stop_inward.result.1 c.stop_inward.ensures);
     }
+
+pub of_hamt-requires : goal.of_hamt-requires
+of_hamt-requires g c = fails_read Inward (g.K.Store.moment c.args.store.now) (g.K.Store.moment c.go_inward.new.store) c.in-Err.fault c.in-Err.ensures.failed
 
 pub returns-in-Err : goal.returns-in-Err
 returns-in-Err g c =

@@ -14,10 +14,10 @@ returns-in-Err g c =
     subst (λ (e : ShowFault). ValueShows h c.args.acc.now c.args.ty c.args.id.now.0 m (Err e) n) (sym c.open_fault.ensures)
     (value_stops h c.args.acc.now c.args.ty c.args.id.now.0 m n (HasNamedValue h c.args.acc.now c.args.ty c.args.id.now.0 n) c.in-Err.fault c.in-Err.ensures)
 
-pub returns-in-Ok-text_of : goal.returns-in-Ok-text_of
-returns-in-Ok-text_of g c =
-    value_shows g.H.KeyHash.hash_of c.args.acc.now c.args.ty c.args.id.now.0 (g.K.Store.moment c.args.store.now) (g.K.Store.moment c.open_named.new.store) c.in-Ok.opened c.in-Ok.ensures c.in-Ok-text_of.text
-    c.in-Ok-text_of.ensures.ok
+pub returns-in-Ok-shown_text : goal.returns-in-Ok-shown_text
+returns-in-Ok-shown_text g c =
+    value_shows g.H.KeyHash.hash_of c.args.acc.now c.args.ty c.args.id.now.0 (g.K.Store.moment c.args.store.now) (g.K.Store.moment c.open_named.new.store) c.in-Ok.opened c.in-Ok.ensures c.in-Ok-shown_text.text
+    c.in-Ok-shown_text.ensures.ok
 
 pub returns-in-Err-Reserved : goal.returns-in-Err-Reserved
 returns-in-Err-Reserved g c =

@@ -15,6 +15,7 @@ loop-rest-smaller g c = rw c.in-Some.is (omega (arith, c.cut_line.ensures.less))
 pub loop-rest-init : goal.loop-rest-init
 loop-rest-init g c = record {
   so_far = so_far_none (g.S.Session.stands c.args.session.now (g.K.Store.moment c.args.store.now)) g.S.Session.passes c.args.session.now (lines_of c.args.script.now) (g.K.Store.moment c.args.store.now) (g.W.Sink.output c.args.out.now).written;
+  ready = c.requires;
   same = refl;
   faults = omega arith;
 }
@@ -34,9 +35,13 @@ loop-rest-preserved g c =
       so_far = so_far_more Stood g.S.Session.passes c.args.session.now Stands Then c.loop-rest.session c.answer_and_write.new.session (lines_of c.args.script.now) c.cut_line.result.0.now (lines_left c.cut_line.result.1) (lines_left c.loop-rest.rest) m n o
           was then now c.loop-rest.refused c.in_ok-refused.field-0
           c.loop-rest.invariant.so_far (rw c.in-Some.is c.cut_line.ensures.cut) one;
+      ready = c.in_ok-refused.ensures.stays;
       same = c.in_ok-refused.ensures.same ∙ c.loop-rest.invariant.same;
       faults = omega arith;
     }
+
+pub answer_and_write-requires : goal.answer_and_write-requires
+answer_and_write-requires g c = c.loop-rest.invariant.ready
 
 pub returns-in_err-refused-clause-part : goal.returns-in_err-refused-clause-part
 returns-in_err-refused-clause-part g c =

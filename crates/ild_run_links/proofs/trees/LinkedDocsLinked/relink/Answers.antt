@@ -1,4 +1,4 @@
-use Rattle.std.proofs.Common.{◌≡◌, ◌≤◌, ℕ, List, Ok, Err, refl, sym, subst, ap, ◌∙◌}
+use Rattle.std.proofs.Common.{◌≤◌, ℕ, Err, sym, subst}
 use Rattle.ild_data.specs.Spell.{id_of}
 use Rattle.ild_links.specs.Relinks.{Relinks}
 use Rattle.ild_links.specs.declared.error.TreeErr.{TreeErr}

@@ -1,0 +1,4 @@
+pub mod Lines
+pub mod Steps
+pub mod Walks
+pub mod Laws
