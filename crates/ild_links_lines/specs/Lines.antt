@@ -1,6 +1,6 @@
 -- What a line of a script is due where a path that stops at a typed link, with segments left, goes on in the tree to which the link leads
 -- (IPLD Schemas, "Links"). All trees stand under bare roots.
-use Rattle.std.specs.Prelude.{◌≡◌, ℕ, ◌+◌, ◌*◌, Bool, true, false, List, [], ◌∷◌, ◌++◌, length, drop, is_some, Option, Some, None, Result, Ok, Err}
+use Rattle.std.specs.Prelude.{ℕ, ◌+◌, ◌*◌, Bool, true, false, List, [], ◌∷◌, ◌++◌, length, drop, is_some, Option, Some, None, Result, Ok, Err}
 use Rattle.std.specs.List.{flat_map}
 use Rattle.std.specs.Option.{option_map_or}
 use Rattle.ild_links.specs.Carries.{changed as changed_trees, relinks_ways}

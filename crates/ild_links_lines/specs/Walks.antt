@@ -11,8 +11,9 @@ use Rattle.ild_links.specs.Walk.{Entered, Walked, ended, not_held, too_deep}
 use Rattle.ild_links.specs.declared.hop.Hop.{Hop}
 use Rattle.ild_links_lines.specs.Lines.{WalksFrom, walk_due, walk_gets}
 use Rattle.ild_path_edits.specs.Judged.{AreTests, Tests}
+use Rattle.ild_run_links.specs.Moments.{HasStanding}
 use Rattle.ild_run_links.specs.Trees.{Setting as Reading, Storable, trees}
-use Rattle.ild_run_standing.specs.Standing.{DocIsAt, IsHeldAt, setting_of}
+use Rattle.ild_run_standing.specs.Standing.{IsHeldAt, setting_of}
 use Rattle.ild_schema.specs.Value.{Value}
 use Rattle.ild_script.specs.declared.reply.No.{No}
 use Rattle.ild_script.specs.declared.reply.No.TheVariants as N
@@ -58,42 +59,43 @@ pub record WalksAlong (h : List ℕ → List ℕ) (d : Doc) (path : List (List �
   pub later : Later m n
   pub blocks : n.blocks ≡ m.blocks
   pub puts : n.puts ≡ m.puts
-  pub walk : (held : List (List ℕ)) → m.blocks ≡ Some held → IfOk result (HasWalk (Storable (trees_of h d)) (trees (trees_of h d)) held path)
+  pub walk : (held : List (List ℕ)) → m.blocks ≡ Some held → HasStanding h d held → IfOk result (HasWalk (Storable (trees_of h d)) (trees (trees_of h d)) held path)
   pub told : (tests : Tests) (held : List (List ℕ)) (v : Value) (walked : Walked Value) → m.blocks ≡ Some held → IsHeldAt h d tests m v → WalksFrom (setting_of h d tests) held v path walked
       → IsWalkedSo (setting_of h d tests) v path walked m.gets n.gets result
 
 -- ---- a line
 
-module _ (h : List ℕ → List ℕ) (w : Setting) (inside : Bool) (new : Doc) (a : Ask) (path : List (List ℕ)) (m : Moment) (v : Value) (walked : Walked Value) (n : Moment) where
-  -- the reply is what the line is due by this walk, and the document stands at the next value
-  pub record LeadsAcross (reply : Reply) : Type 0 where
-    pub next : Value
-    pub at : DocIsAt h new n next
-    pub any : ℕ
-    pub replies : Replies (typed_lines w) m (resting v) (walk_due w inside (idle v) a path any walked) (Some reply) n (resting next)
-
+module _ (w : Setting) (inside : Bool) (a : Ask) (path : List (List ℕ)) (m : Moment) (v : Value) (walked : Walked Value) (n : Moment) (next : Value) where
   -- no link is crossed
   pub record StaysInFirst : Type 0 where
     pub first : Entered Value
     pub alone : walked ≡ record { trees = first ∷ []; ending = ended }
     pub gets : n.gets ≤ m.gets + walk_gets w v path (first ∷ [])
 
+  -- the reply is what the line is due by this walk, which leads to the next value; or no link is crossed
   abbrev pub CrossingAnswer : Option Reply → Type 0
   CrossingAnswer None = StaysInFirst
-  CrossingAnswer (Some reply) = LeadsAcross reply
+  CrossingAnswer (Some reply) = (any : ℕ) × Replies (typed_lines w) m (resting v) (walk_due w inside (idle v) a path any walked) (Some reply) n (resting next)
+
+-- the document stands at the next value then, which the store holds, whatever the walk of the path is
+pub record LeadsAcross (h : List ℕ → List ℕ) (inside : Bool) (old new : Doc) (tests : Tests) (a : Ask) (path : List (List ℕ)) (m : Moment) (held : List (List ℕ)) (v : Value)
+    (reply : Option Reply) (n : Moment) : Type 0 where
+  pub next : Value
+  pub at : IsHeldAt h new tests n next
+  pub along : (walked : Walked Value) → WalksFrom (setting_of h old tests) held v path walked → CrossingAnswer (setting_of h old tests) inside a path m v walked n next reply
 
 -- Of every store: what was held is held, the table and the type stay, a refusal and a read leave the block, a root that is told is the block's, and
--- that the store failed is told only where it did. Where there is no answer, nothing came and the document stays. From where the document stands,
--- by each walk: the reply due, or no link is crossed.
+-- that the store failed is told only where it did. Where there is no answer, and inside a batch, nothing came and the block stays.
+-- From where the document stands, by each walk: the reply due, or no link is crossed.
 pub record Crosses (h : List ℕ → List ℕ) (inside : Bool) (old new : Doc) (a : Ask) (path : List (List ℕ)) (m : Moment) (reply : Option Reply) (n : Moment) : Type 0 where
   pub later : Later m n
   pub table : table_in new ≡ table_in old
   pub type : type_in new ≡ type_in old
-  pub none : reply ≡ None → (new ≡ old) × (n.blocks ≡ m.blocks) × (n.puts ≡ m.puts)
-  pub still : inside ≡ true → (n.blocks ≡ m.blocks) × (n.puts ≡ m.puts)
+  pub none : reply ≡ None → (block_in new ≡ block_in old) × (n.blocks ≡ m.blocks) × (n.puts ≡ m.puts)
+  pub still : inside ≡ true → (block_in new ≡ block_in old) × (n.blocks ≡ m.blocks) × (n.puts ≡ m.puts)
   pub kept : (refusal : No) → reply ≡ Some (R.No refusal) → block_in new ≡ block_in old
   pub told : (t : Tell) (old_path : List (List ℕ)) → a ≡ to_tell t old_path → block_in new ≡ block_in old
   pub rooted : (id : BlockId) → reply ≡ Some (R.Root id) → id.0 ≡ id_of (block_in new)
   pub failed : reply ≡ Some (R.No N.Store) → Rose m.faults n.faults
-  pub leads : (tests : Tests) (held : List (List ℕ)) (v : Value) (walked : Walked Value) → AreTests (table_in old) tests → m.blocks ≡ Some held → IsHeldAt h old tests m v
-      → WalksFrom (setting_of h old tests) held v path walked → CrossingAnswer h (setting_of h old tests) inside new a path m v walked n reply
+  pub leads : (tests : Tests) (held : List (List ℕ)) (v : Value) → AreTests (table_in old) tests → m.blocks ≡ Some held → IsHeldAt h old tests m v
+      → LeadsAcross h inside old new tests a path m held v reply n

@@ -148,14 +148,14 @@ module _ (h : List ℕ → List ℕ) (rows : List Row) (n : TypeNo) (table : IsT
   meant_here None json lows = refl
   meant_here (Some u) json lows = ap (λ x. option_map (λ w. (u, w)) x) (read_in u (read_json json) (lows u refl))
 
-  brought_same : (v : Value) (e : Edit (List ℕ)) → brought longer others.is_key read_json (root_in rows name source v) (edit_beneath e) ≡ brought rows tests.is_key read_json (plainly n, v) e
+  pub brought_same : (v : Value) (e : Edit (List ℕ)) → brought longer others.is_key read_json (root_in rows name source v) (edit_beneath e) ≡ brought rows tests.is_key read_json (plainly n, v) e
   brought_same v (set_at path json) =
       ap (λ o. meant_in longer others.is_key read_json o json) (new_same v (set_at path json)) ∙ meant_here (new_slot rows (plainly n, v) (set_at path json)) json (new_low v (set_at path json))
   brought_same v (ins_at path json) =
       ap (λ o. meant_in longer others.is_key read_json o json) (new_same v (ins_at path json)) ∙ meant_here (new_slot rows (plainly n, v) (ins_at path json)) json (new_low v (ins_at path json))
   brought_same v (del_at path) = refl
 
-  brought_low : (v : Value) (e : Edit (List ℕ)) (q : InSlot) → brought rows tests.is_key read_json (plainly n, v) e ≡ Some q → IsLowSlot (length rows) q
+  pub brought_low : (v : Value) (e : Edit (List ℕ)) (q : InSlot) → brought rows tests.is_key read_json (plainly n, v) e ≡ Some q → IsLowSlot (length rows) q
   brought_low v (set_at path json) q e = meant_low (length rows) rows tests.is_key read_json (new_slot rows (plainly n, v) (set_at path json)) json q (new_low v (set_at path json)) e
   brought_low v (ins_at path json) q e = meant_low (length rows) rows tests.is_key read_json (new_slot rows (plainly n, v) (ins_at path json)) json q (new_low v (ins_at path json)) e
   brought_low v (del_at path) q e = absurd (none-some q e)

@@ -25,9 +25,8 @@ use Rattle.ild_typed.specs.At.{InSlot, changed_in, last_holder, seen}
 use Rattle.ild_typed.specs.Holder.{Holder, fields, member, entries, elements, any_entries, any_elements, nothing, any_holder, holder_of, list_holder, map_holder, struct_holder, union_holder, value_of}
 use Rattle.ild_typed.specs.Segment.{index_of, member_named, part, set_part}
 use Rattle.ild_typed.specs.Stands.{bare}
-use Rattle.ild_typed.specs.Typed.{Typed}
-use Rattle.ild_path_edits.specs.Edit.{changed_by, del_at, del_in, ins_at, ins_in, line_change, meant_or, new_part, placed, read_or, set_at, set_in, unless_kept, with_part}
-use Rattle.ild_path_edits.specs.Judged.{Tests, judged, judged_result, unless_judged}
+use Rattle.ild_path_edits.specs.Edit.{Edit, changed_by, del_at, del_in, ins_at, ins_in, line_change, meant_or, new_part, placed, read_or, set_at, set_in, unless_kept, with_part}
+use Rattle.ild_path_edits.specs.Judged.{Tests, edited, judged, judged_result, unless_judged}
 use Rattle.ild_path_edits.specs.Table.{declared_slot, delete_part, if_absent, insert_part, key_fits, new_index, refusal_to_delete, slot_left_out, slot_to_insert, slot_to_set}
 use Rattle.ild_path_edits.proofs.KeepTyped.{lines_keep_typed}
 use Rattle.ild_value_meaning.specs.MeantRead.{meant}
@@ -40,8 +39,8 @@ use Rattle.ild_named_law.proofs.Alike.{AreAlike, IsLowIn, low_parts}
 use Rattle.ild_named_law.proofs.Entered.{changes_alike, holders_alike}
 use Rattle.ild_named_law.proofs.Known.{alike_longer}
 use Rattle.ild_named_law.proofs.Pathing.{IsLowSlot, forms_low, part_low}
-use Rattle.ild_named_replies.specs.Edits.{AreTestsOfBoth, LineChangesAreAlike, EditsAreAlike, rooted_or}
-use Rattle.ild_named_replies.proofs.Judging.{judged_same}
+use Rattle.ild_named_replies.specs.Edits.{AreTestsOfBoth, LineChangesAreAlike, EditsAreAlike, rooted_or, edit_beneath}
+use Rattle.ild_named_replies.proofs.Judging.{judged_by, rooms_same}
 use Rattle.ild_named_replies.proofs.Meaning.{AreKeysAlike, keys_alike, meant_same, named_low}
 
 -- ---- holders of the first so many types
@@ -295,16 +294,25 @@ judged_or name source c None = refl
 judged_or name source c (Some refusal) = refl
 
 module _ (h : List ℕ → List ℕ) (rows : List Row) (n : TypeNo) (table : IsTable rows) (low : n.0 < length rows) (tests others : Tests) (both : AreTestsOfBoth rows n tests others) (name source : List ℕ) (naming : AreNaming name source) where
-  pub results_same : (r : Result Value No) → ((c : Value) → r ≡ Ok c → Typed rows (plainly n) c)
+  -- both tests of the room are one for this value
+  abbrev pub IsRoomAlike : Value → Type 0
+  IsRoomAlike c = others.fits 96 (plainly (root_type rows)) (rooted name source c) ≡ tests.fits 95 (plainly n) c
+
+  results_same : (r : Result Value No) → ((c : Value) → r ≡ Ok c → IsRoomAlike c)
       → judged_result bare h (named_rows rows n) others (root_type rows) (rooted_or name source r) ≡ rooted_or name source (judged_result (named name source) h rows tests n r)
-  results_same (Err refusal) typed = refl
-  results_same (Ok c) typed =
-      let t = typed c refl in
-      ap (λ o. unless_judged (rooted name source c) o) (judged_same h rows n table low name source c tests others both naming (t.0, t.1))
+  results_same (Err refusal) rooms = refl
+  results_same (Ok c) rooms =
+      ap (λ o. unless_judged (rooted name source c) o) (judged_by h rows n table low name source c tests others naming (rooms c refl))
       ∙ judged_or name source c (judged (named name source) h rows tests n c)
+
+  pub edits_by : (read : List ℕ → Option Data) (v : Value) (e : Edit (List ℕ)) → ((c : Value) → line_change rows tests.is_key read (plainly n, v) e ≡ Ok c → IsRoomAlike c)
+      → edited bare h (named_rows rows n) others read (root_type rows) (rooted name source v) (edit_beneath e) ≡ rooted_or name source (edited (named name source) h rows tests read n v e)
+  edits_by read v e rooms =
+      ap (λ r. judged_result bare h (named_rows rows n) others (root_type rows) r) (line_changes rows n table low tests others both name source read v e)
+      ∙ results_same (line_change rows tests.is_key read (plainly n, v) e) rooms
 
 pub edits_alike : EditsAreAlike
 edits_alike h rows n schema low tests others both name source naming read v e texts trees typed =
-    ap (λ r. judged_result bare h (named_rows rows n) others (root_type rows) r) (line_changes rows n schema.table low tests others both name source read v e)
-    ∙ results_same h rows n schema.table low tests others both name source naming (line_change rows tests.is_key read (plainly n, v) e)
-    (λ c is. lines_keep_typed rows tests.is_key schema both.own.keys read (plainly n, v) e c texts trees typed is)
+    edits_by h rows n schema.table low tests others both name source naming read v e
+    (λ c is. let t = lines_keep_typed rows tests.is_key schema both.own.keys read (plainly n, v) e c texts trees typed is in
+    rooms_same h rows n schema.table low name source c tests others both naming (t.0, t.1))

@@ -165,29 +165,31 @@ module _ (h : List ℕ → List ℕ) (rows : List Row) (n : TypeNo) (table : IsT
   root_of_type naming (room, fits) =
       (suc (suc room), root_fits h rows n table low name source v room naming.name_text (fits_more rows room (suc room) (omega arith) (plainly n) v fits))
 
-  module _ (tests others : Tests) (both : AreTestsOfBoth rows n tests others) (naming : AreNaming name source) (typed : OfType rows (plainly n) v) where
-    rooms_same : others.fits 96 root (rooted name source v) ≡ tests.fits 95 (plainly n) v
-    rooms_same =
-        let above = both.longer.rooms 96 root (rooted name source v) (root_of_type naming typed) in
-        let below = both.own.rooms 95 (plainly n) v typed in
-        same_tests (others.fits 96 root (rooted name source v)) (tests.fits 95 (plainly n) v)
-        (λ passed. below.1 (under_root h rows n table low name source v 95 (above.0 passed)))
-        (λ passed. above.1 (root_fits h rows n table low name source v 94 naming.name_text (below.0 passed)))
+  -- judged alike where both tests of the room are one
+  pub judged_by : (tests others : Tests) → AreNaming name source → others.fits 96 root (rooted name source v) ≡ tests.fits 95 (plainly n) v
+      → judged bare h longer others (root_type rows) (rooted name source v) ≡ judged (named name source) h rows tests n v
+  judged_by tests others naming rooms =
+      let hole = some_layer is_hole rows (plainly n) v in
+      let delimiter = some_layer (breaks rows) rows (plainly n) v in
+      let exhausted = some_layer (is_exhausted h rows) rows (plainly n) v in
+      let others_delimiter = some_layer (breaks longer) longer root (rooted name source v) in
+      let others_exhausted = some_layer (is_exhausted h longer) longer root (rooted name source v) in
+      let others_fit = others.fits 96 root (rooted name source v) in
+      let others_sized = are_sized bare h longer (root_type rows) (rooted name source v) in
+      ap (λ b. first_of b others_delimiter others_fit others_exhausted others_sized) (struct_layers is_hole is_hole refl (λ s v low. refl))
+      ∙ ap (λ b. first_of hole b others_fit others_exhausted others_sized) (struct_layers (breaks longer) (breaks rows) refl (breaks_same (length rows) longer rows alike))
+      ∙ ap (λ b. first_of hole delimiter b others_exhausted others_sized) rooms
+      ∙ ap (λ b. first_of hole delimiter (tests.fits 95 (plainly n) v) b others_sized) (struct_layers (is_exhausted h longer) (is_exhausted h rows) refl (exhausted_same (length rows) longer rows alike h))
+      ∙ ap (λ b. first_of hole delimiter (tests.fits 95 (plainly n) v) exhausted b) (sized_same naming)
 
-    pub judged_same : judged bare h longer others (root_type rows) (rooted name source v) ≡ judged (named name source) h rows tests n v
-    judged_same =
-        let hole = some_layer is_hole rows (plainly n) v in
-        let delimiter = some_layer (breaks rows) rows (plainly n) v in
-        let exhausted = some_layer (is_exhausted h rows) rows (plainly n) v in
-        let others_delimiter = some_layer (breaks longer) longer root (rooted name source v) in
-        let others_exhausted = some_layer (is_exhausted h longer) longer root (rooted name source v) in
-        let others_fit = others.fits 96 root (rooted name source v) in
-        let others_sized = are_sized bare h longer (root_type rows) (rooted name source v) in
-        ap (λ b. first_of b others_delimiter others_fit others_exhausted others_sized) (struct_layers is_hole is_hole refl (λ s v low. refl))
-        ∙ ap (λ b. first_of hole b others_fit others_exhausted others_sized) (struct_layers (breaks longer) (breaks rows) refl (breaks_same (length rows) longer rows alike))
-        ∙ ap (λ b. first_of hole delimiter b others_exhausted others_sized) rooms_same
-        ∙ ap (λ b. first_of hole delimiter (tests.fits 95 (plainly n) v) b others_sized) (struct_layers (is_exhausted h longer) (is_exhausted h rows) refl (exhausted_same (length rows) longer rows alike h))
-        ∙ ap (λ b. first_of hole delimiter (tests.fits 95 (plainly n) v) exhausted b) (sized_same naming)
+  pub rooms_same : (tests others : Tests) → AreTestsOfBoth rows n tests others → AreNaming name source → OfType rows (plainly n) v → others.fits 96 root (rooted name source v) ≡ tests.fits 95 (plainly n) v
+  rooms_same tests others both naming typed =
+      let above = both.longer.rooms 96 root (rooted name source v) (root_of_type naming typed) in
+      let below = both.own.rooms 95 (plainly n) v typed in
+      same_tests (others.fits 96 root (rooted name source v)) (tests.fits 95 (plainly n) v)
+      (λ passed. below.1 (under_root h rows n table low name source v 95 (above.0 passed)))
+      (λ passed. above.1 (root_fits h rows n table low name source v 94 naming.name_text (below.0 passed)))
 
 pub judged_alike : ValuesAreJudgedAlike
-judged_alike h rows n table low tests others both name source naming v typed = judged_same h rows n table low name source v tests others both naming typed
+judged_alike h rows n table low tests others both name source naming v typed =
+    judged_by h rows n table low name source v tests others naming (rooms_same h rows n table low name source v tests others both naming typed)

@@ -1,7 +1,7 @@
-mod Telling
-mod Meaning
-mod Judging
-mod Editing
-mod Answering
-mod Costing
-mod Owing
+pub mod Telling
+pub mod Meaning
+pub mod Judging
+pub mod Editing
+pub mod Answering
+pub mod Costing
+pub mod Owing

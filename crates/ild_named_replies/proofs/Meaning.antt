@@ -40,7 +40,7 @@ same_tests false false f g = refl
 
 -- ---- keys
 
-text_over : (count : ℕ) (others rows : List Row) → AreAlike count others rows → (key : TypeNo) (k : List ℕ) → key.0 < count → IsTextOf rows key k → IsTextOf others key k
+pub text_over : (count : ℕ) (others rows : List Row) → AreAlike count others rows → (key : TypeNo) (k : List ℕ) → key.0 < count → IsTextOf rows key k → IsTextOf others key k
 text_over count others rows alike key k low (room, (v, fits, shows)) =
     (room, (v, fits_over count others rows alike room (plainly key) v low fits, tree_same count others rows alike alone (plainly key) v low ∙ shows))
 

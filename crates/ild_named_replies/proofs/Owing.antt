@@ -6,6 +6,7 @@ use Rattle.ild_json.specs.Law.{MeansTree}
 use Rattle.ild_schema.specs.declared.number.TypeNo.{TypeNo}
 use Rattle.ild_schema.specs.declared.row.Row.{Row}
 use Rattle.ild_schema.specs.Slots.{plainly}
+use Rattle.ild_schema.specs.Table.{IsTable}
 use Rattle.ild_schema.specs.Value.{Value}
 use Rattle.ild_script.specs.Laws.{IsOfTexts}
 use Rattle.ild_script.specs.Line.{Reading, Command, blank, command, outside, reads, shape_of}
@@ -36,7 +37,7 @@ use Rattle.ild_named_replies.proofs.Answering.{json_tree}
 use Rattle.ild_named_replies.proofs.Costing.{all_same, new_nodes_same}
 use Rattle.ild_named_replies.proofs.Editing.{edits_alike}
 
-module _ (h : List ℕ → List ℕ) (rows : List Row) (n : TypeNo) (schema : IsSchema rows) (low : n.0 < length rows) (tests others : Tests) (both : AreTestsOfBoth rows n tests others) (name source : List ℕ) (naming : AreNaming name source) where
+module _ (h : List ℕ → List ℕ) (rows : List Row) (n : TypeNo) (table : IsTable rows) (low : n.0 < length rows) (tests others : Tests) (both : AreTestsOfBoth rows n tests others) (name source : List ℕ) where
   abbrev struct : Setting
   struct = on_struct h rows others n
 
@@ -50,44 +51,59 @@ module _ (h : List ℕ → List ℕ) (rows : List Row) (n : TypeNo) (schema : Is
   owed_same all new (Ok c) = refl
   owed_same all new (Err refusal) = refl
 
-  owes_same : (e : Edit (List ℕ)) (v : Value) → HasTextPath e → ReadsTree read_json e → Typed rows (plainly n) v
-      → edit_owes struct (rooted name source v) (edit_beneath e) (changed struct (rooted name source v) (edit_beneath e)) ≡ edit_owes own v e (changed own v e)
-  owes_same e v texts trees typed =
-      ap (λ r. edit_owes struct (rooted name source v) (edit_beneath e) r) (edits_alike h rows n schema low tests others both name source naming read_json v e texts trees typed)
-      ∙ ap₂ (λ all new. judged_puts all new (rooted_or name source (changed own v e))) (all_same h rows n schema.table low tests others both name source v e)
-      (new_nodes_same h rows n schema.table low tests others both name source v e)
+  abbrev Edited : Value → Edit (List ℕ) → Type 0
+  Edited v e = changed struct (rooted name source v) (edit_beneath e) ≡ rooted_or name source (changed own v e)
+
+  pub owes_same : (e : Edit (List ℕ)) (v : Value) → Edited v e → edit_owes struct (rooted name source v) (edit_beneath e) (changed struct (rooted name source v) (edit_beneath e)) ≡ edit_owes own v e (changed own v e)
+  owes_same e v same =
+      ap (λ r. edit_owes struct (rooted name source v) (edit_beneath e) r) same
+      ∙ ap₂ (λ all new. judged_puts all new (rooted_or name source (changed own v e))) (all_same h rows n table low tests others both name source v e)
+      (new_nodes_same h rows n table low tests others both name source v e)
       ∙ owed_same (all_met own v e) (new_nodes own v e) (changed own v e)
 
   puts_same : (owes : ℕ) (begun : Option Value) → edit_puts owes (option_map (rooted name source) begun) ≡ edit_puts owes begun
   puts_same owes None = refl
   puts_same owes (Some b) = refl
 
-  edit_put : (e : Edit (List ℕ)) (s : State Value) → HasTextPath e → ReadsTree read_json e → Typed rows (plainly n) s.value → PutAlike (to_edit e) (due struct (to_edit (edit_beneath e)) (over s)) (due own (to_edit e) s)
+  pub edit_puts_same : (e : Edit (List ℕ)) (s : State Value) → Edited s.value e → (due struct (to_edit (edit_beneath e)) (over s)).puts ≡ (due own (to_edit e) s).puts
+  edit_puts_same e s same = ap (λ k. edit_puts k (option_map (rooted name source) s.begun)) (owes_same e s.value same) ∙ puts_same (edit_owes own s.value e (changed own s.value e)) s.begun
+
+module _ (h : List ℕ → List ℕ) (rows : List Row) (n : TypeNo) (schema : IsSchema rows) (low : n.0 < length rows) (tests others : Tests) (both : AreTestsOfBoth rows n tests others) (name source : List ℕ) (naming : AreNaming name source) where
+  abbrev on : Setting
+  on = on_struct h rows others n
+
+  abbrev under : Setting
+  under = under_name h rows tests n name source
+
+  abbrev above : State Value → State Value
+  above s = rooted_state name source s
+
+  edit_put : (e : Edit (List ℕ)) (s : State Value) → HasTextPath e → ReadsTree read_json e → Typed rows (plainly n) s.value → PutAlike (to_edit e) (due on (to_edit (edit_beneath e)) (above s)) (due under (to_edit e) s)
   edit_put e s texts trees typed =
-      let same = owes_same e s.value texts trees typed in
+      let same = edits_alike h rows n schema low tests others both name source naming read_json s.value e texts trees typed in
       record {
-        owes = same;
-        puts = λ other. ap (λ k. edit_puts k (option_map (rooted name source) s.begun)) same ∙ puts_same (edit_owes own s.value e (changed own s.value e)) s.begun;
+        owes = owes_same h rows n schema.table low tests others both name source e s.value same;
+        puts = λ other. edit_puts_same h rows n schema.table low tests others both name source e s same;
       }
 
-  root_put : (s : State Value) (o : Option Value) → PutAlike to_tell_root (root_due struct (over s) (option_map (rooted name source) o)) (root_due own s o)
+  root_put : (s : State Value) (o : Option Value) → PutAlike to_tell_root (root_due on (above s) (option_map (rooted name source) o)) (root_due under s o)
   root_put s None = record { owes = refl; puts = λ other. refl }
   root_put s (Some v) = record { owes = refl; puts = λ other. refl }
 
-  begin_put : (s : State Value) (o : Option Value) → PutAlike to_begin (begin_due (over s) (option_map (rooted name source) o)) (begin_due s o)
+  begin_put : (s : State Value) (o : Option Value) → PutAlike to_begin (begin_due (above s) (option_map (rooted name source) o)) (begin_due s o)
   begin_put s None = record { owes = refl; puts = λ other. refl }
   begin_put s (Some v) = record { owes = refl; puts = λ other. refl }
 
-  commit_put : (s : State Value) (o : Option Value) → PutAlike to_commit (commit_due struct (over s) (option_map (rooted name source) o)) (commit_due own s o)
+  commit_put : (s : State Value) (o : Option Value) → PutAlike to_commit (commit_due on (above s) (option_map (rooted name source) o)) (commit_due under s o)
   commit_put s None = record { owes = refl; puts = λ other. refl }
   commit_put s (Some v) = record { owes = refl; puts = λ other. absurd (other refl) }
 
-  abort_put : (s : State Value) (o : Option Value) → PutAlike to_abort (abort_due (over s) (option_map (rooted name source) o)) (abort_due s o)
+  abort_put : (s : State Value) (o : Option Value) → PutAlike to_abort (abort_due (above s) (option_map (rooted name source) o)) (abort_due s o)
   abort_put s None = record { owes = refl; puts = λ other. refl }
   abort_put s (Some v) = record { owes = refl; puts = λ other. refl }
 
   word_put : (verb : Word) (path : List (List ℕ)) (json : List ℕ) (s : State Value) → AllByRecursion IsUtf8 path → MeansTree json → Typed rows (plainly n) s.value
-      → PutAlike (asked_by verb path json) (due struct (asked_by verb (steps_beneath (shape_of verb) path) json) (over s)) (due own (asked_by verb path json) s)
+      → PutAlike (asked_by verb path json) (due on (asked_by verb (steps_beneath (shape_of verb) path) json) (above s)) (due under (asked_by verb path json) s)
   word_put W.Get path json s texts tree typed = record { owes = refl; puts = λ other. refl }
   word_put W.Rep path json s texts tree typed = record { owes = refl; puts = λ other. refl }
   word_put W.Has path json s texts tree typed = record { owes = refl; puts = λ other. refl }
@@ -102,7 +118,7 @@ module _ (h : List ℕ → List ℕ) (rows : List Row) (n : TypeNo) (schema : Is
   word_put W.Abort path json s texts tree typed = abort_put s s.begun
 
   reading_put : (r : Reading) (s : State Value) → ((c : Command) → r ≡ command c → IsOfTexts c) → BringsTree r → Typed rows (plainly n) s.value
-      → PutAlike (asked r) (due struct (asked (reading_beneath r)) (over s)) (due own (asked r) s)
+      → PutAlike (asked r) (due on (asked (reading_beneath r)) (above s)) (due under (asked r) s)
   reading_put blank s texts tree typed = record { owes = refl; puts = λ other. refl }
   reading_put outside s texts tree typed = record { owes = refl; puts = λ other. refl }
   reading_put (command c) s texts tree typed = word_put c.verb c.path c.json s (texts c refl).path tree typed

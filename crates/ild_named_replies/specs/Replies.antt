@@ -12,10 +12,11 @@ use Rattle.ild_named_law.specs.Law.{rooted}
 use Rattle.ild_script_meaning.specs.Ask.{Tell}
 use Rattle.ild_script_meaning.specs.Lines.{Setting, read_reply, root_reply}
 
--- lines about a value under a root that names its schema, and about the struct
+-- lines about a value under a root that names its schema
 abbrev pub under_name : (List ℕ → List ℕ) → List Row → Tests → TypeNo → List ℕ → List ℕ → Setting
 under_name h rows tests n name source = record { frame = named name source; hash = h; rows = rows; tests = tests; ty = n }
 
+-- and about the struct
 abbrev pub on_struct : (List ℕ → List ℕ) → List Row → Tests → TypeNo → Setting
 on_struct h rows tests n = record { frame = bare; hash = h; rows = named_rows rows n; tests = tests; ty = root_type rows }
 

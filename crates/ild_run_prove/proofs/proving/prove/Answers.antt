@@ -1,4 +1,4 @@
-use Rattle.std.proofs.Common.{Ok}
+use Rattle.std.proofs.Common.{ℕ, List, Ok}
 use Rattle.ild_path_enter.proofs.Failing.{fails_read}
 use Rattle.ild_run_prove.proofs.Behind.{failed, proved, unopened, wanting}
 use Rattle.ild_run_prove.proofs.proving.prove.Goals as goal

@@ -1,0 +1,4 @@
+pub mod Tests
+pub mod Scripts
+pub mod Adds
+pub mod Children
