@@ -1,5 +1,5 @@
--- Where nothing stands in the way, a script on the value under a root that names its schema is answered as on the plain struct of that root.
-use Rattle.std.proofs.Common.{◌≡◌, ◌⊎◌, ℕ, ◌≤◌, List, Bool, true, false, Option, Some, None, Result, Ok, Err, sym, ap, ◌∙◌, subst, inl, inr, arith, if◌then◌else◌}
+-- Where nothing stands in the way, a script on the value under a root that names its schema is answered as on the plain value.
+use Rattle.std.proofs.Common.{◌≡◌, ◌⊎◌, ℕ, ◌<◌, ◌≤◌, List, length, Bool, true, false, Option, Some, None, Result, Ok, Err, sym, ap, ◌∙◌, subst, inl, inr, arith, if◌then◌else◌}
 use Rattle.std.proofs.lemmas.Option.{same_Some}
 use Rattle.ild_compile.specs.Compile.{HasAccepted}
 use Rattle.ild_data.specs.declared.id.BlockId.{BlockId}
@@ -13,11 +13,17 @@ use Rattle.ild_edges.specs.declared.inputs.Taken.TheVariants as K
 use Rattle.ild_named_law.proofs.Rooting.{roots_structs}
 use Rattle.ild_named_law.specs.Law.{rooted}
 use Rattle.ild_named_lines.specs.Beneath.{script_beneath}
+use Rattle.ild_named_replies.specs.Replies.{on_struct, under_name}
+use Rattle.ild_named_scripts.proofs.Maying.{may_alike}
+use Rattle.ild_named_scripts.proofs.Scripting.{scripts_alike}
+use Rattle.ild_named_scripts.proofs.Testing.{tested}
+use Rattle.ild_named_scripts.specs.Adds.{MayAlike}
+use Rattle.ild_named_scripts.specs.Tests.{struct_tests}
 use Rattle.ild_named_type.specs.Root.{named_rows, root_type}
 use Rattle.ild_open_named.specs.Described.{IsDescribed}
 use Rattle.ild_open_parts.specs.declared.fault.OpenFault.{OpenFault}
 use Rattle.ild_open_parts.specs.declared.fault.OpenFault.TheVariants as O
-use Rattle.ild_path_edits.specs.Judged.{Tests}
+use Rattle.ild_path_edits.specs.Judged.{AreTests, Tests}
 use Rattle.ild_run_named.proofs.Told.{number_is, one_described, one_table, tells}
 use Rattle.ild_run_named.proofs.Within.{named_within}
 use Rattle.ild_run_named_script.specs.NamedScripts.{NamedScripts}
@@ -26,19 +32,23 @@ use Rattle.ild_run_named_script.specs.declared.fault.NamedScriptFault.TheVariant
 use Rattle.ild_run_named_table.specs.NamedTable.{HasNamedTable, NamesTable}
 use Rattle.ild_run_open.specs.declared.start.Start.TheVariants as T
 use Rattle.ild_run_open.specs.declared.start.StartFault.TheVariants as P
+use Rattle.ild_run_script.specs.Plainly.{MayCome}
 use Rattle.ild_run_script.specs.Scripts.{AnswersAll as ScriptAll}
 use Rattle.ild_run_script.specs.declared.fault.ScriptFault.TheVariants as X
 use Rattle.ild_schema.specs.Names.{number_named}
 use Rattle.ild_schema.specs.Value.{Value as Typed}
 use Rattle.ild_schema.specs.declared.number.TypeNo.{TypeNo}
 use Rattle.ild_schema.specs.declared.row.Row.{Row}
+use Rattle.ild_script.specs.Line.{lines_of}
+use Rattle.ild_script_session.specs.Plain.{MayPut}
+use Rattle.ild_script_session.specs.Session.{idle}
 use Rattle.ild_script_session.specs.declared.cut.Cut.TheVariants as C
 use Rattle.ild_typed.specs.Stands.{bare, Stands}
 use Rattle.ild_run.specs.Complete.{AnswersPlainly, IsUndisturbed}
 use Rattle.ild_run.specs.Cut.{CutAs, ToldAs}
 use Rattle.ild_run.specs.Ended.{Call}
 use Rattle.ild_run.specs.Fault.{fault_text}
-use Rattle.ild_run.specs.NamedScript.{AnswersBeneath, BeneathAs, BeneathTold, EndsScript, InputTold, IsAnsweredBy, IsGivenBeneath, TableTold, TakesScript}
+use Rattle.ild_run.specs.NamedScript.{AnswersAsDue, AnswersBeneath, BeneathAs, BeneathTold, EndsScript, InputTold, IsAnsweredBy, IsGivenBeneath, LetsAnswer, TableTold, TakesScript, due_beneath}
 use Rattle.ild_run.specs.Opening.{InputAnswer}
 use Rattle.ild_run.specs.Shown.{hash}
 use Rattle.ild_run.specs.declared.fault.Fault.{Fault}
@@ -54,7 +64,7 @@ taken_same : (a b : List ℕ) → K.Bytes a ≡ K.Bytes b → a ≡ b
 taken_same a b same = cc
 
 module _ (s : List ℕ × List ℕ) (c : Call) (status : Status) (rows : List Row) (n : TypeNo) (tests : Tests) (v : Typed) (script : List ℕ) (given : IsGivenBeneath s c rows n tests v script)
-    (calm : IsUndisturbed c (named_rows rows n) (root_type rows) tests (T.Root (record { 0 = s.0 })) (rooted given.stands.name given.stands.source v) (script_beneath script)) where
+    (lets : LetsAnswer c (due_beneath rows n tests given.stands.name given.stands.source) v script) where
   abbrev id : BlockId
   id = record { 0 = s.0 }
 
@@ -67,8 +77,47 @@ module _ (s : List ℕ × List ℕ) (c : Call) (status : Status) (rows : List Ro
   abbrev whole : Typed
   whole = rooted given.stands.name given.stands.source v
 
+  abbrev others : Tests
+  others = struct_tests rows n tests
+
   abbrev Plainly : Type 0
-  Plainly = (status ≡ S.Memory) ⊎ AnswersPlainly c longer top tests whole (script_beneath script) status
+  Plainly = (status ≡ S.Memory) ⊎ AnswersPlainly c longer top others whole (script_beneath script) status
+
+  low : n.0 < length rows
+  low = named_within rows given.stands.name (Some n) (sym given.stands.describes.type)
+
+  others_tested : AreTests longer others
+  others_tested = tested rows n given.stands.describes.table low tests given.tested
+
+  -- ---- from the value to the struct
+
+  mays : MayAlike given.stands.name given.stands.source (on_struct hash rows others n) (under_name hash rows tests n given.stands.name given.stands.source) script (idle v)
+  mays = may_alike hash rows n given.stands.describes.table low tests given.tested given.stands.name given.stands.source given.stands.is.naming script (idle v)
+
+  own_put : (b : List ℕ) → MayCome longer top others (T.Root id) whole (script_beneath script) b → MayPut (due_beneath rows n tests given.stands.name given.stands.source) (idle v) (lines_of script) b
+  own_put b (inl none) = absurd none
+  own_put b (inr may) = mays.puts b may
+
+  calm : IsUndisturbed c longer top others (T.Root id) whole (script_beneath script)
+  calm = record {
+    faultless = lets.faultless;
+    apart = record {
+      held = λ kept new may. lets.apart.held kept new (own_put new may);
+      inside = λ begins a b may_a may_b. lets.apart.inside (mays.begins.0 begins) a b (own_put a may_a) (own_put b may_b);
+    };
+  }
+
+  -- ---- and back
+
+  own_answers : AnswersPlainly c longer top others whole (script_beneath script) status → AnswersAsDue c (due_beneath rows n tests given.stands.name given.stands.source) v script status
+  own_answers all =
+      let runs = scripts_alike hash rows n given.stands.describes.table low tests given.tested given.stands.name given.stands.source given.stands.is.naming script (idle v) in
+      let own = runs.own_of all.replies all.last all.run in
+      record { replies = all.replies; last = own.0; run = own.1; written = all.written; status_is = all.status_is }
+
+  own_or_memory : Plainly → (status ≡ S.Memory) ⊎ AnswersAsDue c (due_beneath rows n tests given.stands.name given.stands.source) v script status
+  own_or_memory (inl memory) = inl memory
+  own_or_memory (inr all) = inr (own_answers all)
 
   memory_told : ToldAs F.Memory c.before.output status c.after.output → Plainly
   memory_told line = by line.told where
@@ -80,7 +129,7 @@ module _ (s : List ℕ × List ℕ) (c : Call) (status : Status) (rows : List Ro
   stands_bare : Stands bare (block_at given.held) hash longer top s.0 whole
   stands_bare =
       let st = given.stands in
-      let both = roots_structs (block_at given.held) hash rows n st.describes.table (named_within rows st.name (Some n) (sym st.describes.type)) st.name st.source st.is.naming s.0 v in
+      let both = roots_structs (block_at given.held) hash rows n st.describes.table low st.name st.source st.is.naming s.0 v in
       (both.0 st.is.stands).0
 
   -- ---- the lines
@@ -89,7 +138,7 @@ module _ (s : List ℕ × List ℕ) (c : Call) (status : Status) (rows : List Ro
     lines_by : (refused : Bool) → (behind : Output) → status ≡ (if refused then S.Refused else S.Done) → c.after.output ≡ behind → BeneathAs longer top id script m c.before.output status c.after.moment c.after.output
         → ScriptAll longer top (T.Root id) (script_beneath script) m c.before.output refused c.after.moment behind → Plainly
     lines_by refused behind is same has all =
-        inr (plain_from c longer top tests (T.Root id) whole (script_beneath script) m given.held store given.tested stands_bare still calm.apart status refused is has.schema
+        inr (plain_from c longer top others (T.Root id) whole (script_beneath script) m given.held store others_tested stands_bare still calm.apart status refused is has.schema
         (subst (λ (o : Output). ScriptAll longer top (T.Root id) (script_beneath script) m c.before.output refused c.after.moment o) (sym same) all))
 
     result_by : (result : Result Bool NamedScriptFault) (behind : Output) → BeneathAs longer top id script m c.before.output status c.after.moment c.after.output
@@ -171,7 +220,8 @@ module _ (s : List ℕ × List ℕ) (c : Call) (status : Status) (rows : List Ro
   table_by (Err O.Memory) k names told = memory_told told.0
 
 pub answered_beneath : (s : List ℕ × List ℕ) (c : Call) (status : Status) → EndsScript s c status → AnswersBeneath s c status
-answered_beneath s c status ends rows n tests v script given calm = table_by s c status rows n tests v script given calm ends.table ends.behind ends.names ends.told
+answered_beneath s c status ends rows n tests v script given lets =
+    own_or_memory s c status rows n tests v script given lets (table_by s c status rows n tests v script given lets ends.table ends.behind ends.names ends.told)
 
 -- ---- as the words ask
 

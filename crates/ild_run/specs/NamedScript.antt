@@ -1,17 +1,17 @@
 -- How a call ends that answers a script on the value under a root which names its schema: the words tell the root and the script alone.
-use Rattle.std.specs.Prelude.{◌≡◌, ◌⊎◌, ◌≤◌, ℕ, List, [], ◌∷◌, map, Bool, true, false, Option, Some, None, option_map, if◌then◌else◌, codes, Result, Ok, Err, String, string_bytes}
+use Rattle.std.specs.Prelude.{◌≡◌, ◌⊎◌, ◌≤◌, ℕ, List, [], ◌∷◌, map, Bool, true, false, Contains, Option, Some, None, option_map, if◌then◌else◌, codes, Result, Ok, Err, String, string_bytes}
 use Rattle.std.specs.Borrow.{Bor}
+use Rattle.std.specs.List.{list_any}
 use Rattle.std.specs.declared.alloc.Global.{Global}
 use Rattle.ild_data.specs.Key.{same_text}
+use Rattle.ild_data.specs.Spell.{id_of}
 use Rattle.ild_data_root.specs.Root.{root_of_text}
 use Rattle.ild_data.specs.declared.id.BlockId.{BlockId}
 use Rattle.ild_edges.specs.Inputs.{Supply, taken_of, file_at}
 use Rattle.ild_edges.specs.declared.inputs.Taken.TheVariants as Taken
-use Rattle.ild_edges.specs.Sink.{Output}
-use Rattle.ild_edges.specs.Store.{Moment}
-use Rattle.ild_named_law.specs.Law.{rooted}
-use Rattle.ild_named_lines.specs.Beneath.{script_beneath}
-use Rattle.ild_named_type.specs.Root.{named_rows, root_type}
+use Rattle.ild_edges.specs.Sink.{Output, Appends}
+use Rattle.ild_edges.specs.Store.{Moment, block_at}
+use Rattle.ild_named_replies.specs.Replies.{under_name}
 use Rattle.ild_open_parts.specs.declared.fault.OpenFault.{OpenFault}
 use Rattle.ild_open_parts.specs.declared.fault.OpenFault.TheVariants as O
 use Rattle.ild_path_edits.specs.Judged.{Tests, AreTests}
@@ -20,13 +20,19 @@ use Rattle.ild_run_named_script.specs.NamedScripts.{NamedScripts}
 use Rattle.ild_run_named_script.specs.declared.fault.NamedScriptFault.{NamedScriptFault}
 use Rattle.ild_run_named_script.specs.declared.fault.NamedScriptFault.TheVariants as B
 use Rattle.ild_run_named_table.specs.NamedTable.{NamesTable}
-use Rattle.ild_run_open.specs.declared.start.Start.TheVariants as T
 use Rattle.ild_run_script.specs.declared.fault.ScriptFault.TheVariants as X
 use Rattle.ild_schema.specs.Value.{Value as Typed}
 use Rattle.ild_schema.specs.declared.number.TypeNo.{TypeNo}
 use Rattle.ild_schema.specs.declared.row.Row.{Row}
+use Rattle.ild_script.specs.Line.{lines_of}
+use Rattle.ild_script.specs.Reply.{is_no}
+use Rattle.ild_script.specs.declared.reply.Reply.{Reply}
+use Rattle.ild_script_meaning.specs.Lines.{line_due}
+use Rattle.ild_script_session.specs.Plain.{AreAllApart, MayBegin, MayPut, PlainRun}
+use Rattle.ild_script_session.specs.Run.{texts}
+use Rattle.ild_script_session.specs.Session.{Due, State, idle}
 use Rattle.ild_typed.specs.Schema.{IsSchema}
-use Rattle.ild_run.specs.Complete.{AnswersPlainly, IsUndisturbed}
+use Rattle.ild_run.specs.Complete.{IsFaultless}
 use Rattle.ild_run.specs.Cut.{ToldAs}
 use Rattle.ild_run.specs.Ended.{Call}
 use Rattle.ild_run.specs.Fault.{cut_status, start_fault}
@@ -108,24 +114,50 @@ EndsScript s c status = RunsRoot (record { 0 = s.0 }) s.1 c.before.supply c.befo
 -- ---- where nothing stands in the way
 
 -- the inputs tell and hold the script; the store tells what it holds; and a value stands in it under the root, of a type that the root
--- describes. These are tests of the table that has the struct of such roots.
+-- describes. These are tests of the schema's table.
 pub record IsGivenBeneath (s : List ℕ × List ℕ) (c : Call) (rows : List Row) (n : TypeNo) (tests : Tests) (v : Typed) (script : List ℕ) : Type 0 where
   pub held : List (List ℕ)
   pub store : c.before.moment.blocks ≡ Some held
   pub stands : StandsDescribed hash s.0 held rows n v
-  pub tested : AreTests (named_rows rows n) tests
+  pub tested : AreTests rows tests
   pub files : List (List ℕ × List ℕ)
   pub told : c.before.supply.files ≡ Some files
   pub script_held : taken_of (file_at files s.1) ≡ Taken.Bytes script
 
--- Every line of the script was answered as the same line with `/value` before its path on the plain struct of the name, the value and the link
--- to the schema; or memory was wanting.
+-- What a line is due on the plain value under a root that describes its type so. A root that it tells is the id of the block made from scratch
+-- of the value, which names the type and links to the schema's text too.
+abbrev pub due_beneath : List Row → TypeNo → Tests → List ℕ → List ℕ → State Typed → List ℕ → Due Typed
+due_beneath rows n tests name source = line_due (under_name hash rows tests n name source)
+
+-- no count of faults rose, and no block that lines so due may put collides with one that the store holds, or, where a batch may be begun, with
+-- another of them
+pub record LetsAnswer (c : Call) (due : State Typed → List ℕ → Due Typed) (v : Typed) (script : List ℕ) : Type 0 where
+  pub faultless : IsFaultless c
+  pub apart : AreAllApart c.after.moment (MayBegin due (idle v) (lines_of script)) (MayPut due (idle v) (lines_of script))
+
+-- every line of the script was answered as it is due on the plain value, or `no 14 memory`, and all replies were written
+pub record AnswersAsDue (c : Call) (due : State Typed → List ℕ → Due Typed) (v : Typed) (script : List ℕ) (status : Status) : Type 0 where
+  pub replies : List Reply
+  pub last : State Typed
+  pub run : PlainRun due (idle v) (lines_of script) replies last
+  pub written : Appends c.before.output.written c.after.output.written (texts replies)
+  pub status_is : status ≡ (if list_any is_no replies then S.Refused else S.Done)
+
+-- the script was answered as on the plain value that stands under the root; or memory was wanting
 abbrev pub AnswersBeneath : List ℕ × List ℕ → Call → Status → Type 0
 AnswersBeneath s c status =
     (rows : List Row) (n : TypeNo) (tests : Tests) (v : Typed) (script : List ℕ) (given : IsGivenBeneath s c rows n tests v script)
-    → IsUndisturbed c (named_rows rows n) (root_type rows) tests (T.Root (record { 0 = s.0 })) (rooted given.stands.name given.stands.source v) (script_beneath script)
-    → (status ≡ S.Memory) ⊎ AnswersPlainly c (named_rows rows n) (root_type rows) tests (rooted given.stands.name given.stands.source v) (script_beneath script) status
+    → LetsAnswer c (due_beneath rows n tests given.stands.name given.stands.source) v script
+    → (status ≡ S.Memory) ⊎ AnswersAsDue c (due_beneath rows n tests given.stands.name given.stands.source) v script status
 
 abbrev pub IsAnsweredBy : Option (List ℕ × List ℕ) → Call → Status → Type 0
 IsAnsweredBy None c status = Unit {0}
 IsAnsweredBy (Some s) c status = AnswersBeneath s c status
+
+-- The premise on collisions can be met: where all that a store holds, and all that the lines may put, are among blocks of which no two have
+-- one id.
+abbrev pub LinesCanBeApart : Type 0
+LinesCanBeApart = (due : State Typed → List ℕ → Due Typed) (v : Typed) (script : List ℕ) (own : List (List ℕ)) (n : Moment) (held : List (List ℕ)) → n.blocks ≡ Some held
+    → ((id b : List ℕ) → block_at held id ≡ Some b → Contains own b) → ((b : List ℕ) → MayPut due (idle v) (lines_of script) b → Contains own b)
+    → ((a b : List ℕ) → Contains own a → Contains own b → id_of a ≡ id_of b → a ≡ b)
+    → AreAllApart n (MayBegin due (idle v) (lines_of script)) (MayPut due (idle v) (lines_of script))

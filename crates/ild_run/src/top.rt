@@ -319,7 +319,7 @@ fn carry_words<I: Inputs, K: Store, W: Sink>(
 /// or the first cause is told for which no store holds such a value. Under `show` the value of a type that stands under a root is read
 /// and written as DAG-JSON; or a block is told that isn't held, or isn't what has to stand there, where no such value does. Without a schema and
 /// a type `show` takes both from the root, which names the type and links to the schema's text, and so does `run`: its lines are answered as on
-/// the root, which is the struct of a name, a value and a link, with the path of each through the value. And `migrate` gives the value of a type that
+/// the plain value, and a root that is printed names the type and the schema too. And `migrate` gives the value of a type that
 /// stands under a root another root, which names its schema so, puts the schema's text, and prints the new root. Under `compat`
 /// the types with one name of two schemas are compared: `ok true` tells that all that stands as a value of the first stands as one of the
 /// other, in the same blocks and with the same shown form; or a pair of their types is told, and a rule that fails for it. Under `verify`

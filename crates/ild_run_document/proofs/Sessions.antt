@@ -56,7 +56,7 @@ word_speaks w W.Begin path json s e = begin_speaks s s.begun e
 word_speaks w W.Commit path json s e = commit_speaks w s s.begun e
 word_speaks w W.Abort path json s e = abort_speaks s s.begun e
 
-reading_speaks : (w : Setting) (r : Reading) (s : State Value) → (due w (asked r) s).reply ≡ None → r ≡ blank
+pub reading_speaks : (w : Setting) (r : Reading) (s : State Value) → (due w (asked r) s).reply ≡ None → r ≡ blank
 reading_speaks w blank s e = refl
 reading_speaks w (command c) s e = absurd (word_speaks w c.verb c.path c.json s e)
 reading_speaks w outside s e = absurd cc

@@ -112,7 +112,7 @@ fn answer_inside<'s, K: Store>(
 }
 
 /// Does what a line that was read asks for.
-fn obey<'s, K: Store>(
+pub(crate) fn obey<'s, K: Store>(
     alloc: Global,
     doc: &mut Doc<'s>,
     begun: &mut Option<Begun<'s>>,
