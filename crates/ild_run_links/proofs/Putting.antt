@@ -48,7 +48,6 @@ use Rattle.ild_script_meaning.specs.Lines.{short}
 use Rattle.ild_typed.proofs.Utf8Texts.{link_fits}
 use Rattle.ild_typed.specs.At.{InSlot, at}
 use Rattle.ild_typed.specs.Blocks.{nodes}
-use Rattle.ild_typed.specs.Hamt.{whole}
 use Rattle.ild_typed.specs.Fits.{Fits}
 use Rattle.ild_typed.specs.Schema.{IsSchema}
 use Rattle.ild_typed.specs.Stands.{Stands, bare, blocks_of}

@@ -16,7 +16,7 @@ use Rattle.ild_links.specs.declared.error.TreeErr.{TreeErr}
 use Rattle.ild_links.specs.declared.hop.Hop.{Hop}
 use Rattle.ild_run_links.proofs.Setting.{both_same, causes_on, no_reads}
 use Rattle.ild_run_links.proofs.Standing.{stands_for, stands_under}
-use Rattle.ild_run_links.proofs.Stopped.{later_lacks}
+use Rattle.ild_run_links.proofs.Stopped.{lacks_more, later_lacks}
 use Rattle.ild_run_links.specs.Links.{link_to, relinked}
 use Rattle.ild_run_links.specs.Moments.{HasStanding, HoldsBlock, HoldsValue, with_lacks}
 use Rattle.ild_run_links.specs.Trees.{Setting, Storable, blocks_in, trees}
@@ -139,7 +139,7 @@ module _ (w : Setting) (schema : IsSchema w.rows) (path : List (List ℕ)) (hop 
       })
 
   why_not : (e : TreeFault) → SetsTree w.hash w.rows path hop new m (Err e) n → RelinkAnswer (Storable w) (trees w) (with_lacks m l) path hop new (Err (tree_err hop.id e)) (with_lacks n (lacks_after l e))
-  why_not F.Block x = ((refl, λ held told v st. (set_value (Err F.Block) x held v told st).answer), λ untold. omega arith)
+  why_not F.Block x = ((refl, λ held told v st. (set_value (Err F.Block) x held v told st).answer), λ untold. lacks_more m n l x.later)
   why_not F.Store x = x.cause
   why_not (F.Clash at kept block) x = (
     x.cause,

@@ -1,11 +1,11 @@
 -- Where a path stops in a tree, as the trees over a store answer it.
-use Rattle.std.proofs.Common.{◌≡◌, ℕ, zero, suc, ◌+◌, ◌≤◌, true, false, true≢false, cond, List, length, drop, Some, Result, Ok, Err, refl, sym, ap, ◌∙◌, subst, arith}
+use Rattle.std.proofs.Common.{◌≡◌, ℕ, zero, suc, ◌+◌, ◌*◌, ◌-◌, ◌^◌, ◌≤◌, min, true, false, true≢false, cond, List, length, drop, Some, Result, Ok, Err, refl, sym, ap, ◌∙◌, subst, arith}
 use Rattle.std.proofs.Math.Logic.{∥∥₁_elim}
 use Rattle.std.proofs.Props.{props}
 use Rattle.std.specs.List.{slice_get}
 use Rattle.ild_data.specs.Spell.{id_of}
 use Rattle.ild_data.specs.declared.id.BlockId.{BlockId}
-use Rattle.ild_edges.specs.Count.{Rose}
+use Rattle.ild_edges.specs.Count.{Rose, bumped}
 use Rattle.ild_edges.specs.Gained.{OnlyReads}
 use Rattle.ild_edges.specs.Store.{Moment, Later, StaysBelow, asked_over, block_at}
 use Rattle.ild_edges.specs.Told.{BothTold}
@@ -42,8 +42,46 @@ beneath_lacks : (m n : Moment) (k l : ℕ) → BelowStays m n → BelowStays (wi
 beneath_lacks m n k l p zero = p zero
 beneath_lacks m n k l p (suc i) = p (suc i)
 
+-- the two counts in one number
+both_up : (a b k l : ℕ) → a ≤ b → k ≤ l → a * 2 ^ 64 + min k (2 ^ 64 - 1) ≤ b * 2 ^ 64 + min l (2 ^ 64 - 1)
+both_up a b k l le more = omega (arith, le, more)
+
+first_up : (a b k l : ℕ) → a * 2 ^ 64 + min k (2 ^ 64 - 1) ≤ b * 2 ^ 64 + min l (2 ^ 64 - 1) → a ≤ b
+first_up a b k l le = omega (arith, le)
+
+one_more : (a b l : ℕ) → a ≤ b → Rose (a * 2 ^ 64 + min l (2 ^ 64 - 1)) (b * 2 ^ 64 + min (bumped l) (2 ^ 64 - 1))
+one_more a b l le = omega (arith, le)
+
 pub later_lacks : (m n : Moment) (k l : ℕ) → k ≤ l → Later m n → Later (with_lacks m k) (with_lacks n l)
-later_lacks m n k l le later = record { keeps = later.keeps; given = later.given; gets = later.gets; puts = later.puts; lacks = le; faults = later.faults; beneath = beneath_lacks m n k l later.beneath }
+later_lacks m n k l le later = record {
+  keeps = later.keeps;
+  given = later.given;
+  gets = later.gets;
+  puts = later.puts;
+  lacks = both_up m.lacks n.lacks k l later.lacks le;
+  faults = later.faults;
+  beneath = beneath_lacks m n k l later.beneath;
+}
+
+-- a tree more is found lacking
+pub lacks_more : (m n : Moment) (l : ℕ) → Later m n → Rose (with_lacks m l).lacks (with_lacks n (bumped l)).lacks
+lacks_more m n l later = one_more m.lacks n.lacks l later.lacks
+
+beneath_back : (m n : Moment) (k l : ℕ) → BelowStays (with_lacks m k) (with_lacks n l) → BelowStays m n
+beneath_back m n k l p zero = p zero
+beneath_back m n k l p (suc i) = p (suc i)
+
+-- and the other way
+pub later_store : (m n : Moment) (k l : ℕ) → Later (with_lacks m k) (with_lacks n l) → Later m n
+later_store m n k l later = record {
+  keeps = later.keeps;
+  given = later.given;
+  gets = later.gets;
+  puts = later.puts;
+  lacks = first_up m.lacks n.lacks k l later.lacks;
+  faults = later.faults;
+  beneath = beneath_back m n k l later.beneath;
+}
 
 -- the root block d of a tree is at hand, from the moment m on, by gets until k
 pub record IsAtHand (w : Setting) (t : Tree) (d : Doc) (m k : Moment) : Type 0 where
@@ -90,7 +128,7 @@ module _ (w : Setting) (t : Tree) (d : Doc) (m k n : Moment) (l : ℕ) (at_hand 
   }
 
   answer_err : (e : TreeFault) → StopsInDoc w.hash d path from k (Err e) n → (id : BlockId) → id.0 ≡ t.id → StopAnswer (Storable w) (trees w) (with_lacks m l) t path from (Err (tree_err id e)) (with_lacks n (lacks_after l e))
-  answer_err F.Block s id is = ((is, λ held told v st. (of_tree (Err F.Block) s held v told st).answer), λ untold. omega arith)
+  answer_err F.Block s id is = ((is, λ held told v st. (of_tree (Err F.Block) s held v told st).answer), λ untold. lacks_more m n l (Later-trans m k n at_hand.reads.later s.reads.later))
   answer_err F.Store s id is = let up = at_hand.reads.later.faults in let rose : Rose k.faults n.faults = s.failed in omega (arith, up, rose)
   answer_err (F.Clash at kept new) s id is = absurd s.failed
   answer_err F.Memory s id is = tt
@@ -131,7 +169,7 @@ module _ (w : Setting) (t : Tree) (m k : Moment) where
 
   closed_answer : (l : ℕ) (path : List (List ℕ)) (from : ℕ) (e : OpenFault) → Opens (HasOpened w.hash w.rows t.ty t.id k) w.hash w.rows t.ty t.id m (Err e) k → (id : BlockId) → id.0 ≡ t.id
       → StopAnswer (Storable w) (trees w) (with_lacks m l) t path from (Err (tree_err id (open_fault e))) (with_lacks k (lacks_after l (open_fault e)))
-  closed_answer l path from (O.Block at why) o id is = ((is, λ held told v st. o.answer.0 held v told (stands_under w held t v st)), λ untold. omega arith)
+  closed_answer l path from (O.Block at why) o id is = ((is, λ held told v st. o.answer.0 held v told (stands_under w held t v st)), λ untold. lacks_more m k l o.only.later)
   closed_answer l path from O.Store o id is = o.answer
   closed_answer l path from O.Memory o id is = tt
 

@@ -1,5 +1,5 @@
 -- A store at a moment, as the trees over it show it.
-use Rattle.std.specs.Prelude.{◌≡◌, ℕ, List, Some}
+use Rattle.std.specs.Prelude.{◌≡◌, ℕ, ◌+◌, ◌*◌, ◌-◌, ◌^◌, min, List, Some}
 use Rattle.ild_data.specs.Spell.{id_of}
 use Rattle.ild_edges.specs.Store.{Moment, block_at}
 use Rattle.ild_schema.specs.Value.{Value}
@@ -7,9 +7,9 @@ use Rattle.ild_typed.specs.Stands.{Stands, bare}
 use Rattle.ild_view_doc.specs.Docs.{block_in, table_in, type_in}
 use Rattle.ild_view_doc.specs.declared.doc.Doc.{Doc}
 
--- with a count of its own for the trees that were found lacking
+-- with a count of the trees that were found lacking, which stands in one number with the store's own count of lacks, so that neither hides the other
 abbrev pub with_lacks : Moment → ℕ → Moment
-with_lacks m lacks = record m { lacks = lacks }
+with_lacks m lacks = record m { lacks = m.lacks * 2 ^ 64 + min lacks (2 ^ 64 - 1) }
 
 -- a value stands under the id of a document's block
 pub record HasStanding (h : List ℕ → List ℕ) (d : Doc) (held : List (List ℕ)) : Type 0 where

@@ -24,6 +24,11 @@ pub record Setting : Type 0 where
   pub ty : TypeNo
   pub id : List ℕ
 
+-- That of trees over a store, with the reference by which they hold the store.
+pub record Over : Type 0 where
+  pub reading : Setting
+  pub store : ℕ
+
 -- the blocks of a value of a type, the root block first; of one without a representation there are none
 abbrev pub blocks_in : (List ℕ → List ℕ) → List Row → TypeNo → Value → List (List ℕ)
 blocks_in h rows ty v = option_map_or (blocks_of bare h rows ty v) (represented (whole h) rows (plainly ty) v) []

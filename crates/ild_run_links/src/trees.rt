@@ -53,19 +53,19 @@ impl<'d, 's, K: Store, H: KeyHash> LinkedDocs<'d, 's, K, H> {
 impl<'d, 's, K: Store, H: KeyHash> Linked for LinkedDocs<'d, 's, K, H> {
     ghost use Rattle.ild_data.specs.Spell.{id_of};
     ghost use Rattle.ild_run_links.specs.Moments.{with_lacks};
-    ghost use Rattle.ild_run_links.specs.Trees.{Setting as Reading, Storable, trees};
+    ghost use Rattle.ild_run_links.specs.Trees.{Over, Storable, trees};
     ghost use Rattle.ild_schema.specs.Value.{Value as Typed};
     ghost use Rattle.ild_view_doc.specs.Docs.{block_in, table_in, type_in};
 
     ghost Value = { Typed };
 
-    ghost Setting = { Reading };
+    ghost Setting = { Over };
 
-    ghost setting = { λ t. record { hash = H.hash_of; rows = table_in t.doc.now; ty = type_in t.doc.now; id = id_of (block_in t.doc.now) } };
+    ghost setting = { λ t. record { reading = record { hash = H.hash_of; rows = table_in t.doc.now; ty = type_in t.doc.now; id = id_of (block_in t.doc.now) }; store = t.store.ghost_name } };
 
-    ghost meaning = { trees };
+    ghost meaning = { λ o. trees o.reading };
 
-    ghost storable = { Storable };
+    ghost storable = { λ o. Storable o.reading };
 
     ghost moment = { λ t. with_lacks (K.moment t.store.now) t.lacks };
 

@@ -1,0 +1,3 @@
+mod Viewing
+mod Telling
+mod Crossing
