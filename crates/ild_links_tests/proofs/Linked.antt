@@ -1,5 +1,7 @@
 -- That a chain of trees is one of linked trees.
 use Rattle.std.proofs.Common.{◌≡◌, ◌⊎◌, inl, inr, ⊎_elim, ℕ, ◌+◌, ◌-◌, ◌^◌, ◌≤◌, ◌<◌, min, Bool, true, false, cond, List, [], ◌∷◌, ◌++◌, ◌&&◌, Option, Some, None, IsSome, Contains, Result, Ok, Err, refl, sym, ap, ◌∙◌, subst, arith}
+use Rattle.std.proofs.Math.Logic.{∥∥₁_elim}
+use Rattle.std.proofs.Props.{props}
 use Rattle.std.specs.Cmp.Lexicographic.{nat_list_eq_equiv}
 use Rattle.std.proofs.lemmas.Option.{same_Some, none-some}
 use Rattle.ild_data.specs.Key.{same_text}
@@ -101,13 +103,13 @@ module _ (first : List ℕ) where
   linked_has ty v (s ∷ []) some = and_left (has_link v) (same_text (name_of v) s) (some_by (is_named v s) _ some)
   linked_has ty v (s ∷ t ∷ ss) some = cc some
 
-  linked_block : (m : Moment) (hop : Hop) (path : List (List ℕ)) (b : List ℕ) (held : List (List ℕ)) → ((held : List (List ℕ)) → m.blocks ≡ Some held → HasLink Any (chain_meaning first) held path hop) → m.blocks ≡ Some held → block_at held hop.id.0 ≡ Some b → has_link b ≡ true
+  linked_block : (m : Moment) (hop : Hop) (path : List (List ℕ)) (b : List ℕ) (held : List (List ℕ)) → ((held : List (List ℕ)) → m.blocks ≡ Some held → ∥ HasLink Any (chain_meaning first) held path hop ∥₁) → m.blocks ≡ Some held → block_at held hop.id.0 ≡ Some b → has_link b ≡ true
   linked_block m hop path b held link told at =
-      let l = link held told in
-      subst (λ (x : List ℕ). has_link x ≡ true) (sym (held_stands held (tree_of hop) b l.value at l.stands)) (linked_has hop.ty l.value (followed path hop) l.link)
+      ∥∥₁_elim (link held told) (hlevel props)
+      (λ l. subst (λ (x : List ℕ). has_link x ≡ true) (sym (held_stands held (tree_of hop) b l.value at l.stands)) (linked_has hop.ty l.value (followed path hop) l.link))
 
   -- the block has no link, and the tree's value would have one: so the content isn't told
-  pub chain_unlinked : (m s : Moment) (l up : ℕ) (hop : Hop) (path : List (List ℕ)) (new b : List ℕ) → ((held : List (List ℕ)) → m.blocks ≡ Some held → HasLink Any (chain_meaning first) held path hop) → Fetches m hop.id.0 (Ok b) (with_lacks s l) → has_link b ≡ false
+  pub chain_unlinked : (m s : Moment) (l up : ℕ) (hop : Hop) (path : List (List ℕ)) (new b : List ℕ) → ((held : List (List ℕ)) → m.blocks ≡ Some held → ∥ HasLink Any (chain_meaning first) held path hop ∥₁) → Fetches m hop.id.0 (Ok b) (with_lacks s l) → has_link b ≡ false
       → l < 2 ^ 64 → up ≡ min (l + 1) (2 ^ 64 - 1) → Relinks Any (chain_meaning first) m path hop new (Err (E.Block hop.id)) (with_lacks s up)
   chain_unlinked m s l up hop path new b link f none fits is =
       let at : (held : List (List ℕ)) → m.blocks ≡ Some held → block_at held hop.id.0 ≡ Some b = λ held told. told_at m.blocks held (λ h. block_at h hop.id.0 ≡ Some b) told f.answer.1 in

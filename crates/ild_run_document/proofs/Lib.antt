@@ -1,4 +1,4 @@
-mod Settings
-mod Turning
+pub mod Settings
+pub mod Turning
 mod Batched
-mod Sessions
+pub mod Sessions

@@ -1,6 +1,7 @@
 -- A link set in a tree's value, as the trees over a store answer it.
 use Rattle.std.proofs.Common.{◌≡◌, ◌≤◌, ◌+◌, inl, ℕ, List, [], ◌∷◌, Some, IsSome, Result, Ok, Err, refl, sym, ◌∙◌, subst, arith}
-use Rattle.std.proofs.Math.Logic.{∥∥₁_map}
+use Rattle.std.proofs.Math.Logic.{∥∥₁_elim, ∥∥₁_map}
+use Rattle.std.proofs.Props.{props}
 use Rattle.std.specs.List.{AllByRecursion}
 use Rattle.std.specs.Prelude.{option_and_then}
 use Rattle.ild_data.specs.Spell.{id_of}
@@ -102,16 +103,16 @@ bare_is_frame : IsFrame bare
 bare_is_frame = record { less = omega arith; apart = λ c d same. same; fits = λ d fits. fits; blocks = tt }
 
 module _ (w : Setting) (schema : IsSchema w.rows) (path : List (List ℕ)) (hop : Hop) (new : List ℕ) (m n : Moment) (l : ℕ)
-    (link : (held : List (List ℕ)) → m.blocks ≡ Some held → HasLink (Storable w) (trees w) held path hop) where
+    (link : (held : List (List ℕ)) → m.blocks ≡ Some held → ∥ HasLink (Storable w) (trees w) held path hop ∥₁) where
   abbrev In : List (List ℕ) → Value → Type 0
   In held v = Stands (Storable w) (trees w) held (tree_of hop) v
 
   -- the value that stands for the tree has the link
   linked : (was : List (List ℕ)) (v : Value) → m.blocks ≡ Some was → In was v → IsSome ((trees w).link hop.ty v (followed path hop))
   linked was v told st =
-      let has = link was told in
+      ∥∥₁_elim (link was told) (hlevel props) (λ has.
       let same : has.value ≡ v = one_stands bare bare_is_frame (block_at was) w.hash w.rows schema hop.ty hop.id.0 has.value v (stands_under w was (tree_of hop) has.value has.stands) (stands_under w was (tree_of hop) v st) in
-      subst (λ u. IsSome ((trees w).link hop.ty u (followed path hop))) same has.link
+      subst (λ u. IsSome ((trees w).link hop.ty u (followed path hop))) same has.link)
 
   module _ (r : Result BlockId TreeFault) (x : SetsTree w.hash w.rows path hop new m r n) where
     set_value : (was : List (List ℕ)) (v : Value) → m.blocks ≡ Some was → In was v → SetsValue w.hash w.rows hop.ty v (followed path hop) new m r n

@@ -1,0 +1,7 @@
+mod Blocks
+mod Earlier
+mod Lasts
+mod Carried
+mod Done
+mod Upward
+mod Crossing

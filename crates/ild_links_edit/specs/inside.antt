@@ -1,0 +1,4 @@
+pub mod Finds
+pub mod Ends
+pub mod Raises
+pub mod Changes
